@@ -23,7 +23,7 @@ int main(int count, char **words) {
             for (uint32_t t = 0; t < threads; t++) {
                 pcml_offer o = {PCML_ALWAYS, 0, 0, {0, {{0, 0}}}};
                 pcml_row met;
-                if (pcml_begin(&p, (pcml_row){t, g}, &o, 1, &met) != PCML_FOUND_ALONE) return 2;
+                if (pcml_begin(&p, (pcml_row){t, g}, &o, 1, true, &met) != PCML_FOUND_ALONE) return 2;
             }
         size_t n;
         double c = now();

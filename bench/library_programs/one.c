@@ -19,7 +19,7 @@ static void by_calls(pcml_pass *p, pcml_row x, pcml_row y, const pcml_offer *sen
 static void by_two(pcml_pass *p, pcml_row x, pcml_row y, const pcml_offer *send, const pcml_offer *recv, pcml_message *m) {
     pcml_row met;
     pcml_joined joined;
-    if (pcml_begin(p, x, send, 1, &met) != PCML_FOUND_LEFT || pcml_begin(p, y, recv, 1, &met) != PCML_FOUND_MET) abort();
+    if (pcml_begin(p, x, send, 1, true, &met) != PCML_FOUND_LEFT || pcml_begin(p, y, recv, 1, true, &met) != PCML_FOUND_MET) abort();
     if (pcml_answer(p, y, &joined, m)) abort();
 }
 int main(int count, char **words) {

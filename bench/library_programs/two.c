@@ -34,8 +34,8 @@ static void meet(pair *q, uint32_t side, uint32_t g) {
     pcml_offer o = {side ? PCML_RECV : PCML_SEND, 0, 0, {1, {{PCML_NUMBER, g}}}};
     pcml_message m;
     pcml_joined joined;
-    uint32_t came = pcml_begin(p, mine, &o, 1, &other);
-    while (came == PCML_FOUND_AGAIN) came = pcml_search(p, mine, &other);
+    uint32_t came = pcml_begin(p, mine, &o, 1, true, &other);
+    while (came == PCML_FOUND_AGAIN) came = pcml_search(p, mine, true, &other);
     if (came > PCML_FOUND_AGAIN) abort();
     if (came == PCML_FOUND_MET) tell(q);
     for (uint32_t seen = q->news; pcml_look(p, mine) < PCML_CELL_SYNCHED; seen = q->news) rest(q, seen);

@@ -111,14 +111,15 @@ uint32_t pcml_answer(pcml_pass *pass, pcml_row row, pcml_joined *joined, pcml_me
 uint32_t pcml_attempt(pcml_pass *pass, pcml_row mine, uint32_t own, pcml_row other, uint32_t partner);
 /* Commits the row alone by this offer: an always, an enabled nack, the end of a thread that has ended. */
 uint32_t pcml_grant(pcml_pass *pass, pcml_row row, uint32_t offer);
-/* Looks for a row that this one can meet, or for an offer that commits it alone. Of two rows whose offers meet, not both
- * are left. `met` may not be null. */
-uint32_t pcml_search(pcml_pass *pass, pcml_row row, pcml_row *met);                  /* enum pcml_found */
+/* Looks for a row that this one can meet, and where `alone` is true for an offer that commits it alone; else such an offer
+ * is left to pcml_grant. Of two rows whose offers meet, not both are left. `met` may not be null. */
+uint32_t pcml_search(pcml_pass *pass, pcml_row row, bool alone, pcml_row *met);      /* enum pcml_found */
 /* Tries pcml_grant with each offer of the row: for those who wait for a nack or an end that has come. */
 uint32_t pcml_wake(pcml_pass *pass, pcml_row row);                                   /* enum pcml_found */
 uint32_t pcml_take(pcml_pass *pass, pcml_row row);                                   /* 0 taken, 1 not committed, or taken before */
 /* Takes the row before, where the pass does not hold this one yet, drafts, opens and searches. */
-uint32_t pcml_begin(pcml_pass *pass, pcml_row row, const pcml_offer *offers, size_t count, pcml_row *met); /* enum pcml_found */
+uint32_t pcml_begin(pcml_pass *pass, pcml_row row, const pcml_offer *offers, size_t count, bool alone,
+                    pcml_row *met);                                                  /* enum pcml_found */
 
 /* LIVES. Starts a thread of the table's mask `later` from a held row of another thread that is not opened. */
 uint32_t pcml_start(pcml_pass *pass, pcml_row row, uint32_t thread);                 /* 0 started, 1 it had started before */

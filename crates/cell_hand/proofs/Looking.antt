@@ -19,7 +19,7 @@ use Rattle.cell_table.specs.declared.view.Seen.{Seen}
 use Rattle.cell_table.specs.Sight.{Has, SawEnded, see_cell, see_held}
 use Rattle.atomic_table.specs.declared.shared.Seat.{Seat}
 use Rattle.meet_directory.specs.declared.view.View.{View}
-use Rattle.meet_scan.specs.Leaving.{IsHeldUp, KnowsMore}
+use Rattle.meet_scan.specs.Leaving.{IsHeldUp, KnowsMore, ScansTo}
 use Rattle.meet_scan.specs.Searches.{Finds, Grows}
 use Rattle.meet_scan.specs.Steps.{SearchMade, found_or_left}
 use Rattle.meet_scan.specs.declared.found.Found.{Found}
@@ -67,24 +67,31 @@ finds_sooner s m t r (Some Alone) g f = f
 finds_sooner s m t r (Some Already) g f = f
 finds_sooner s m t r (Some Left) g f = (λ c. f.0 (saw_more s m r g c), λ n c. f.1 n (stands_more s m r n g c))
 
+scans_sooner : (v : View) (s m t : Seen) (r : Row) (came : Option Found) → Grows s m → IfSome came (ScansTo v m t r) → IfSome came (ScansTo v s t r)
+scans_sooner v s m t r None g f = f
+scans_sooner v s m t r (Some (Met other)) g f = f
+scans_sooner v s m t r (Some Alone) g f = f
+scans_sooner v s m t r (Some Already) g f = f
+scans_sooner v s m t r (Some Left) g f = (f.0, λ c. f.1 (saw_more s m r g c))
+
 again_sooner : (t u : Grid) (v : View) (s m k : Seen) (r : Row) (came : Option Found) → u ≡ t → Grows s m → IfNone came (IsHeldUp u v m k r) → IfNone came (IsHeldUp t v s k r)
 again_sooner t u v s m k r (Some f) same g held = held
 again_sooner t u v s m k r None same g held =
     subst (λ (w : Grid). IsHeldUp w v s k r) same (held_more u v v s m k k r (more_nothing v) g (grows_nothing k) held)
 
-pub searched_sooner : (h m k : HandOf) (r : Row) (came : Option Found) → Looked h m → IsSearched m k r came → IsSearched h k r came
-searched_sooner h m k r came looked x = record {
+pub searched_sooner : (h m k : HandOf) (r : Row) (alone : Bool) (came : Option Found) → Looked h m → IsSearched m k r alone came → IsSearched h k r alone came
+searched_sooner h m k r alone came looked x = record {
   table = (x.table.0 ∙ looked.0.0, x.table.1 ∙ looked.0.1);
   grows = grows_then h.pass.seen m.pass.seen k.pass.seen looked.1 x.grows;
   more = subst (λ (v : View). KnowsMore v k.scan.me.0) (ap (λ (s : Seat (Unit {0}) View). s.me.0) looked.0.2) x.more;
   made = subst (λ (steps : List Step). SearchMade r (found_or_left came) steps k.pass.made) looked.2.0 x.made;
-  found = finds_sooner h.pass.seen m.pass.seen k.pass.seen r came looked.1 x.found;
-  left = x.left;
+  found = scans_sooner k.scan.me.0 h.pass.seen m.pass.seen k.pass.seen r came looked.1 x.found;
+  granted = λ asked. finds_sooner h.pass.seen m.pass.seen k.pass.seen r came looked.1 (x.granted asked);
   again = again_sooner h.table m.table k.scan.me.0 h.pass.seen m.pass.seen k.pass.seen r came looked.0.0 looked.1 x.again;
 }
 
-pub searches : (h m k : HandOf) (r : Row) (came : Option Found) → Looked h m → CanAttempt m r → IsSearched m k r came → Searches h k r (Ok came)
-searches h m k r came looked can x = (can_then m k r can x.table.0 x.grows, searched_sooner h m k r came looked x)
+pub searches : (h m k : HandOf) (r : Row) (alone : Bool) (came : Option Found) → Looked h m → CanAttempt m r → IsSearched m k r alone came → Searches h k r alone (Ok came)
+searches h m k r alone came looked can x = (can_then m k r can x.table.0 x.grows, searched_sooner h m k r alone came looked x)
 
 -- how the row was committed shows in its cell
 pub joined_seen : (r : Row) (c : Cell) (j : Joined) (s : Seen) → joined_of c ≡ Some j → Has (see_cell r c s).joined (r, j)

@@ -1,5 +1,5 @@
 -- What each call comes to, by the hand before it and after it.
-use Rattle.std.specs.Prelude.{⊤, All, map, ◌≡◌, ◌⊎◌, ℕ, ◌<◌, ◌≤◌, Bool, true, false, Option, Some, None, IfSome, IfNone, Result, Ok, Err, List, [], ◌∷◌}
+use Rattle.std.specs.Prelude.{⊤, All, map, ◌≡◌, ◌⊎◌, ℕ, ◌<◌, ◌≤◌, Bool, true, false, Option, Some, None, IfSome, IfNone, IsTrue, Result, Ok, Err, List, [], ◌∷◌}
 use Rattle.protocol_values.specs.declared.Binding.{Binding}
 use Rattle.protocol_values.specs.declared.Cell.{Cell}
 use Rattle.protocol_values.specs.declared.Course.{Course}
@@ -19,7 +19,7 @@ use Rattle.cell_table.specs.Nacks.{CanStandAlone, IsSeenBound}
 use Rattle.cell_table.specs.declared.view.Seen.{Seen}
 use Rattle.cell_table.specs.Rule.{dealt_from, seen_nothing}
 use Rattle.cell_table.specs.Sight.{Has, IsBefore, IsDraft, IsExpected, IsExpectedCourse, IsKnownOpen, IsResult, LackOffer, Redrafts, SawCommitted, SeesOffer, see_cell, see_course}
-use Rattle.meet_scan.specs.Leaving.{IsHeldUp, IsLeftRow, KnowsMore}
+use Rattle.meet_scan.specs.Leaving.{IsHeldUp, KnowsMore, ScansTo}
 use Rattle.meet_scan.specs.Searches.{Finds, Grows, IsAlone}
 use Rattle.meet_scan.specs.Steps.{OnlyLooks, SearchMade, found_or_left}
 use Rattle.meet_scan.specs.declared.found.Found.{Found}
@@ -122,19 +122,20 @@ Takes h k r (Ok (Some j)) = Stays h k × Took h.table.rows h.pass.seen k.pass.se
 Takes h k r (Ok None) = Looked h k × (SawCommitted h.pass.seen r → Has k.pass.seen.taken r)
 Takes h k r (Err e) = (k ≡ h) × NotThere h r e
 
--- What a search came to. None: it is to be made again, and what holds it up is named.
-pub record IsSearched (h k : HandOf) (r : Row) (came : Option Found) : Type 0 where
+-- What a search came to, where offers that need no partner were granted or not. None: it is to be made again, and what holds it up
+-- is named.
+pub record IsSearched (h k : HandOf) (r : Row) (alone : Bool) (came : Option Found) : Type 0 where
   pub table : (k.table ≡ h.table) × (k.board ≡ h.board)
   pub grows : Grows h.pass.seen k.pass.seen
   pub more : KnowsMore h.scan.me.0 k.scan.me.0
   pub made : SearchMade r (found_or_left came) h.pass.made k.pass.made
-  pub found : IfSome came (Finds h.pass.seen k.pass.seen r)
-  pub left : IfSome came (λ f. f ≡ Left → IsLeftRow k.scan.me.0 k.pass.seen r)
+  pub found : IfSome came (ScansTo k.scan.me.0 h.pass.seen k.pass.seen r)
+  pub granted : IsTrue alone → IfSome came (Finds h.pass.seen k.pass.seen r)
   pub again : IfNone came (IsHeldUp h.table k.scan.me.0 h.pass.seen k.pass.seen r)
 
-abbrev pub Searches : HandOf → HandOf → Row → Result (Option Found) Refusal → Type 0
-Searches h k r (Ok found) = CanAttempt k r × IsSearched h k r found
-Searches h k r (Err e) = Looked h k × NotOpened h r e
+abbrev pub Searches : HandOf → HandOf → Row → Bool → Result (Option Found) Refusal → Type 0
+Searches h k r alone (Ok found) = CanAttempt k r × IsSearched h k r alone found
+Searches h k r alone (Err e) = Looked h k × NotOpened h r e
 
 -- SEVERAL CALLS IN ONE
 
@@ -144,11 +145,11 @@ Reaches h k r (Ok done) = CanDraft k r × Stays h k × ((k.pass.made ≡ h.pass.
 Reaches h k r (Err e) = Looked h k × NotFresh h k r e
 
 -- it is reached, drafted, opened and searched, one after the other
-abbrev pub Begins : HandOf → HandOf → Row → List Offer → Result (Option Found) Refusal → Type 0
-Begins h k r offers (Ok found) =
+abbrev pub Begins : HandOf → HandOf → Row → List Offer → Bool → Result (Option Found) Refusal → Type 0
+Begins h k r offers alone (Ok found) =
     (reached : HandOf) × Reaches h reached r (Ok tt) × (drafted : HandOf) × IsDrafted reached drafted r offers
-    × (opened : HandOf) × Made drafted opened (Open r ∷ []) × IsSearched opened k r found
-Begins h k r offers (Err e) = Looked h k × NotFresh h k r e
+    × (opened : HandOf) × Made drafted opened (Open r ∷ []) × IsSearched opened k r alone found
+Begins h k r offers alone (Err e) = Looked h k × NotFresh h k r e
 
 -- LIVES
 

@@ -61,17 +61,17 @@ impl Hand {
     }
 
     /// Searches for a row that this held opened one can meet. It waits for nobody. None: one of them was claimed, and the
-    /// search is to be made again.
-    pub fn search(&mut self, row: Row) -> Result<Option<Found>, Refusal>
-        ensures { Searches self.old self.new row result }
+    /// search is to be made again. An offer that needs no partner is granted only if so asked.
+    pub fn search(&mut self, row: Row, alone: bool) -> Result<Option<Found>, Refusal>
+        ensures { Searches self.old self.new row alone result }
     {
         self.test_opened(row)?;
-        Ok(self.search_opened(row))
+        Ok(self.search_opened(row, alone))
     }
 
-    pub(crate) fn search_opened(&mut self, row: Row) -> Option<Found>
+    pub(crate) fn search_opened(&mut self, row: Row, alone: bool) -> Option<Found>
         requires opened { CanAttempt self.old row }
-        ensures { IsSearched self.old self.new row result }
+        ensures { IsSearched self.old self.new row alone result }
     {
         search_once(
             &self.table.directory,
@@ -80,18 +80,24 @@ impl Hand {
             &mut self.pass,
             &NoGate,
             row,
+            alone,
         )
     }
 
     /// Takes the row before this one, where the pass does not hold it yet, drafts the offers, opens the row and searches.
-    pub fn begin(&mut self, row: Row, offers: &[Offer]) -> Result<Option<Found>, Refusal>
+    pub fn begin(
+        &mut self,
+        row: Row,
+        offers: &[Offer],
+        alone: bool,
+    ) -> Result<Option<Found>, Refusal>
         requires offers { AreOffers offers.now }
-        ensures { Begins self.old self.new row offers.now result }
+        ensures { Begins self.old self.new row offers.now alone result }
     {
         self.reach(row)?;
         self.write(row, offers);
         self.open_fresh(row);
-        Ok(self.search_opened(row))
+        Ok(self.search_opened(row, alone))
     }
 
     /// Has the pass hold the row, not opened: by a take of the row before it, where it is held by none.

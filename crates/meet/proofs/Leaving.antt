@@ -6,18 +6,10 @@ use Rattle.cell_table.specs.Sight.{SawCommitted}
 use Rattle.cell_table.specs.declared.view.Seen.{Seen}
 use Rattle.meet_directory.specs.declared.view.View.{View}
 use Rattle.meet_scan.specs.Leaving.{IsLeftRow, ScansTo}
-use Rattle.meet_scan.specs.Searches.{Finds, FoundAt, Grows, Leaves}
+use Rattle.meet_scan.specs.Searches.{Finds, FoundAt, Grows}
 use Rattle.meet_scan.specs.declared.found.Found.{Found}
 use Rattle.meet_scan.specs.declared.found.Found.TheVariants.{Met, Alone, Already, Left}
 use Rattle.meet_scan.proofs.Growing.{saw_more}
-use Rattle.meet_scan.proofs.Scanning.{left_at_more, more_nothing}
-
--- the row was left for all its offers, and then to others
-pub left_scans : (v : View) (s t u : Seen) (r : Row) (found : Found) → Grows s t → Grows t u → IsLeftRow v t r → Leaves t u r found → ScansTo v s u r found
-left_scans v s t u r (Met other) before after left leaves = absurd leaves
-left_scans v s t u r Alone before after left leaves = absurd leaves
-left_scans v s t u r Already before after left leaves = leaves
-left_scans v s t u r Left before after left leaves = ((λ n low. left_at_more v v t u r n (more_nothing v) after (left n low)), λ c. leaves (saw_more s t r before c))
 
 pub scans_find : (v : View) (s t u : Seen) (r : Row) (found : Found) → Grows s t → ((n : ℕ) → ¬ CanStandAlone s r n) → ScansTo v t u r found → Finds s u r found
 scans_find v s t u r (Met other) grows none h = h

@@ -17,8 +17,8 @@ use Rattle.cell_table.specs.declared.view.Seen.{Seen}
 use Rattle.cell_table.specs.Sight.{Coherent, Has, HaveDirection, LackOffer, SawCommitted}
 use Rattle.meet_directory.specs.declared.view.View.{View}
 use Rattle.meet_directory.specs.Directory.{HasBit, Missed, NoBitBetween, NoPairMissed, Opened, Published, glimpse, saw, Has as HasMark}
-use Rattle.meet_scan.specs.Leaving.{ArePublished, AreRead, CannotPass, ComesTo, IsDoneWith, IsHeldUp, IsLeft, IsLeftAt, IsLeftFor, IsPast, KnowsMore, MeetsNoneAt, NoPairLeft, PassedBy, lanes_of}
-use Rattle.meet_scan.specs.Searches.{FoundAt, Grows, LacksAt, Lists}
+use Rattle.meet_scan.specs.Leaving.{ArePublished, AreRead, CannotPass, ComesTo, IsDoneWith, IsHeldUp, IsLeft, IsLeftAt, IsLeftFor, IsLeftRow, IsPast, KnowsMore, MeetsNoneAt, NoPairLeft, PassedBy, ScansTo, lanes_of}
+use Rattle.meet_scan.specs.Searches.{FoundAt, Grows, LacksAt, Leaves, Lists}
 use Rattle.meet_scan.specs.Steps.{SearchMade, found_or_left}
 use Rattle.protocol_values.specs.declared.Step.{Step}
 use Rattle.cell_table.specs.Nacks.{CanStandAlone}
@@ -342,14 +342,21 @@ left_in_lane v s r d both is left l m e = subst (λ (z : ℕ × ℕ). IsLeft v s
 pub left_nowhere : (v : View) (s : Seen) (r : Row) (d : Direction) → lanes_of d ≡ None → IsLeftFor v s r d
 left_nowhere v s r d none l m e = absurd (no_lane d (l, m) none e)
 
--- the first offers, and one more
-abbrev pub AreLeft : View → Seen → Seen → Row → ℕ → Type 0
-AreLeft v s t r n = (k : ℕ) → k < n → IsLeftAt v t r k × (¬ CanStandAlone s r k)
+-- the first offers, and one more; where it is asked, none of them lets the row stand alone
+abbrev pub AreLeft : View → Seen → Seen → Row → Type 0 → ℕ → Type 0
+AreLeft v s t r Asked n = (k : ℕ) → k < n → IsLeftAt v t r k × (Asked → ¬ CanStandAlone s r k)
 
-pub left_next : (v w : View) (s t u : Seen) (r : Row) (n : ℕ) → KnowsMore v w → Grows t u → AreLeft v s t r n → IsLeftAt w u r n → (¬ CanStandAlone s r n) → AreLeft w s u r (n + 1)
-left_next v w s t u r n more g before here alone k low = dite (ℕ_discrete k n)
-    (λ (e : k ≡ n). subst (λ (z : ℕ). IsLeftAt w u r z × (¬ CanStandAlone s r z)) (sym e) (here, alone))
+pub left_next : (v w : View) (s t u : Seen) (r : Row) (Asked : Type 0) (n : ℕ) → KnowsMore v w → Grows t u → AreLeft v s t r Asked n → IsLeftAt w u r n → (Asked → ¬ CanStandAlone s r n) → AreLeft w s u r Asked (n + 1)
+left_next v w s t u r Asked n more g before here alone k low = dite (ℕ_discrete k n)
+    (λ (e : k ≡ n). subst (λ (z : ℕ). IsLeftAt w u r z × (Asked → ¬ CanStandAlone s r z)) (sym e) (here, alone))
     (λ (ne : k ≢ n). let was = before k (omega arith) in (left_at_more v w t u r k more g was.0, was.1))
+
+-- the row was left for all its offers, and then to others
+pub left_scans : (v : View) (s t u : Seen) (r : Row) (found : Found) → Grows s t → Grows t u → IsLeftRow v t r → Leaves t u r found → ScansTo v s u r found
+left_scans v s t u r (Met other) before after left leaves = absurd leaves
+left_scans v s t u r Alone before after left leaves = absurd leaves
+left_scans v s t u r Already before after left leaves = leaves
+left_scans v s t u r Left before after left leaves = ((λ n low. left_at_more v v t u r n (more_nothing v) after (left n low)), λ c. leaves (saw_more s t r before c))
 
 -- READ ONE AFTER ANOTHER: the heads that were read stand in the list, and nothing behind them
 pub record ReadTo (t : Seen) (r : Row) (directions : List (Option Direction)) (n : ℕ) : Type 0 where

@@ -1,6 +1,6 @@
 //! The scan of the directory: every row that one's own can meet is looked at, whatever the queues show.
 
-ghost use Rattle.std.specs.Prelude.{◌≡◌, ◌≢◌, ◌<◌, ◌≤◌, ℕ, IfNone, IfSome, Some};
+ghost use Rattle.std.specs.Prelude.{◌≡◌, ◌≢◌, ◌<◌, ◌≤◌, ℕ, IfNone, IfSome, IsTrue, Some};
 ghost use Rattle.cell_table.specs.Nacks.{CanStandAlone};
 ghost use Rattle.cell.specs.Calls.{IsPassOf, IsRowOf, KeepsResults};
 ghost use Rattle.cell_table.specs.Sight.{Coherent, Has, HaveDirection};
@@ -8,10 +8,9 @@ ghost use Rattle.cell_table.specs.declared.view.Seen.{Seen};
 ghost use Rattle.meet_directory.specs.Directory.{NoPairMissed, Offered, Published};
 ghost use Rattle.meet_directory.specs.Seats.{Sits};
 ghost use Rattle.meet_directory.specs.declared.view.View.{View};
-ghost use Rattle.meet_scan.specs.Leaving.{ArePublished, AreRead, CannotPass, ComesTo, IsDoneWith, IsHeldUp, IsLeft, IsLeftFor, IsLeftRow, KnowsMore, MeetsAt, MeetsNone, NoPairLeft, NobodyLeft, PassedBy, lanes_of};
+ghost use Rattle.meet_scan.specs.Leaving.{ArePublished, AreRead, CannotPass, ComesTo, IsDoneWith, IsHeldUp, IsLeft, IsLeftFor, IsLeftRow, KnowsMore, MeetsAt, MeetsNone, NoPairLeft, NobodyLeft, PassedBy, ScansTo, lanes_of};
 ghost use Rattle.meet_scan.specs.Searches.{Finds, Grows, StandsByNone};
 ghost use Rattle.meet_scan.specs.Steps.{OnlyLooks, SearchMade, found_or_left};
-ghost use Rattle.meet_scan.specs.declared.found.Found.TheVariants.{Left};
 
 use crate::found::Found;
 use crate::own::{commit_alone, leave, own_directions};
@@ -223,7 +222,8 @@ fn offer(directory: &Directory, scan: &mut DirectoryPass, thread: u8, direction:
     }
 }
 
-/// Looks for what one offer of the published row can be committed with. None: a row was claimed that it may meet.
+/// Looks for what one offer of the published row can be committed with, alone too if so asked. None: a row was claimed that
+/// it may meet.
 fn scan_offer<G: StepGate, M: Resident>(
     directory: &Directory,
     scan: &mut DirectoryPass,
@@ -232,6 +232,7 @@ fn scan_offer<G: StepGate, M: Resident>(
     gate: &G,
     mine: (Row, u8),
     direction: Direction,
+    alone: bool,
 ) -> Option<Found>
     requires here { IsPassOf cells.now pass.old × IsRowOf cells.now mine.0 }
     requires opened { Has pass.old.seen.held mine.0 × Has pass.old.seen.opened mine.0 }
@@ -244,17 +245,18 @@ fn scan_offer<G: StepGate, M: Resident>(
     ensures sits { Sits directory.now scan.new }
     ensures more { KnowsMore scan.old.me.0 scan.new.me.0 }
     ensures made { SearchMade mine.0 (found_or_left result) pass.old.made pass.new.made }
-    ensures found { IfSome result (ComesTo pass.new.seen mine.0 (IsLeftFor scan.new.me.0 pass.new.seen mine.0 direction × (¬ CanStandAlone pass.old.seen mine.0 mine.1))) }
+    ensures found { IfSome result (ComesTo pass.new.seen mine.0 (IsLeftFor scan.new.me.0 pass.new.seen mine.0 direction × (IsTrue alone → ¬ CanStandAlone pass.old.seen mine.0 mine.1))) }
     ensures again { IfNone result (IsHeldUp cells.now scan.new.me.0 pass.old.seen pass.new.seen mine.0) }
 {
     match lanes(direction) {
         Some(both) => scan_lane(directory, scan, cells, pass, gate, mine, direction, both),
-        None => Some(commit_alone(cells, pass, mine).unwrap_or(Found::Left)),
+        None if alone => Some(commit_alone(cells, pass, mine).unwrap_or(Found::Left)),
+        None => Some(Found::Left),
     }
 }
 
-/// Looks, offer by offer, for what the published row can be committed with. None: a row was claimed that it may meet,
-/// and nothing came of the others.
+/// Looks, offer by offer, for what the published row can be committed with, alone too if so asked. None: a row was claimed
+/// that it may meet, and nothing came of the others.
 pub fn scan_offers<G: StepGate, M: Resident>(
     directory: &Directory,
     scan: &mut DirectoryPass,
@@ -263,6 +265,7 @@ pub fn scan_offers<G: StepGate, M: Resident>(
     gate: &G,
     row: Row,
     directions: &[Option<Direction>; 8],
+    alone: bool,
 ) -> Option<Found>
     requires here { IsPassOf cells.now pass.old × IsRowOf cells.now row }
     requires opened { Has pass.old.seen.held row × Has pass.old.seen.opened row }
@@ -275,7 +278,7 @@ pub fn scan_offers<G: StepGate, M: Resident>(
     ensures sits { Sits directory.now scan.new }
     ensures more { KnowsMore scan.old.me.0 scan.new.me.0 }
     ensures made { SearchMade row (found_or_left result) pass.old.made pass.new.made }
-    ensures found { IfSome result (ComesTo pass.new.seen row (IsLeftRow scan.new.me.0 pass.new.seen row × StandsByNone pass.old.seen row directions.now)) }
+    ensures found { IfSome result (ComesTo pass.new.seen row (IsLeftRow scan.new.me.0 pass.new.seen row × (IsTrue alone → StandsByNone pass.old.seen row directions.now))) }
     ensures again { IfNone result (IsHeldUp cells.now scan.new.me.0 pass.old.seen pass.new.seen row) }
 {
     let mut is_claimed = false;
@@ -283,7 +286,16 @@ pub fn scan_offers<G: StepGate, M: Resident>(
         let Some(direction) = directions[usize::from(n)] else {
             continue;
         };
-        match scan_offer(directory, scan, cells, pass, gate, (row, n), direction) {
+        match scan_offer(
+            directory,
+            scan,
+            cells,
+            pass,
+            gate,
+            (row, n),
+            direction,
+            alone,
+        ) {
             Some(Found::Left) => continue,
             Some(Found::Met(other)) => return Some(Found::Met(other)),
             Some(Found::Alone) => return Some(Found::Alone),
@@ -300,6 +312,8 @@ pub fn scan_offers<G: StepGate, M: Resident>(
 /// Searches for a row that this one can meet, by the directory alone, and waits for nobody: it publishes the row, and
 /// looks once at each row that it may meet. None: one of them was claimed, and the search is to be made again. Its
 /// caller has a scheduler of his own.
+///
+/// An offer that needs no partner is granted only if so asked: else it is left to a grant of the caller's own.
 pub fn search_once<G: StepGate, M: Resident>(
     directory: &Directory,
     scan: &mut DirectoryPass,
@@ -307,6 +321,7 @@ pub fn search_once<G: StepGate, M: Resident>(
     pass: &mut Pass<M>,
     gate: &G,
     row: Row,
+    alone: bool,
 ) -> Option<Found>
     requires here { IsPassOf cells.now pass.old × IsRowOf cells.now row }
     requires opened { Has pass.old.seen.held row × Has pass.old.seen.opened row }
@@ -317,14 +332,14 @@ pub fn search_once<G: StepGate, M: Resident>(
     ensures sits { Sits directory.now scan.new }
     ensures more { KnowsMore scan.old.me.0 scan.new.me.0 }
     ensures made { SearchMade row (found_or_left result) pass.old.made pass.new.made }
-    ensures found { IfSome result (Finds pass.old.seen pass.new.seen row) }
-    ensures left { IfSome result (λ found. found ≡ Left → IsLeftRow scan.new.me.0 pass.new.seen row) }
+    ensures found { IfSome result (ScansTo scan.new.me.0 pass.old.seen pass.new.seen row) }
+    ensures alone { IsTrue alone → IfSome result (Finds pass.old.seen pass.new.seen row) }
     ensures again { IfNone result (IsHeldUp cells.now scan.new.me.0 pass.old.seen pass.new.seen row) }
 {
     let directions = own_directions(cells, pass, row);
     cells.has_few_threads();
     publish(directory, scan, row, &directions);
-    match scan_offers(directory, scan, cells, pass, gate, row, &directions)? {
+    match scan_offers(directory, scan, cells, pass, gate, row, &directions, alone)? {
         Found::Left => Some(leave(cells, pass, row)),
         found => Some(found),
     }

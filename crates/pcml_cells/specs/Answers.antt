@@ -180,13 +180,13 @@ TellsMet after (Ok (Some Left)) = ⊤
 TellsMet after (Ok None) = ⊤
 TellsMet after (Err e) = ⊤
 
-abbrev pub Searched : HandOf → HandOf → Row → PlainRow → ℕ → Type 0
-Searched h k r met answer = (e : Result (Option Found) Refusal) × Searches h k r e × (answer ≡ number_of found_number e) × TellsMet met e
+abbrev pub Searched : HandOf → HandOf → Row → Bool → PlainRow → ℕ → Type 0
+Searched h k r alone met answer = (e : Result (Option Found) Refusal) × Searches h k r alone e × (answer ≡ number_of found_number e) × TellsMet met e
 
-abbrev pub Began : HandOf → HandOf → Row → List PlainOffer → PlainRow → ℕ → Type 0
-Began h k r plain met answer =
+abbrev pub Began : HandOf → HandOf → Row → List PlainOffer → Bool → PlainRow → ℕ → Type 0
+Began h k r plain alone met answer =
     ((offers : List Offer) × AreListed plain offers × (length offers ≡ length plain)
-    × (e : Result (Option Found) Refusal) × Begins h k r offers e × (answer ≡ number_of found_number e) × TellsMet met e)
+    × (e : Result (Option Found) Refusal) × Begins h k r offers alone e × (answer ≡ number_of found_number e) × TellsMet met e)
     ⊎ (OutOfRange h k answer × ((8 < length plain) ⊎ NotAll plain))
 
 -- What closing does: the pass keeps a lawful ledger, with all that it had seen, or others are left, and it stays as it is.

@@ -94,32 +94,34 @@ fn take(kept: &mut Kept, row: PlainRow) -> u32
     }
 }
 
-/// Searches for a row that this held opened one can meet. 0 met, with that row, 1 committed alone, 2 committed before, 3 left
-/// to others, 4 to be searched again: a row that it may meet was claimed.
+/// Searches for a row that this held opened one can meet; an offer that needs no partner is granted only where `alone` is
+/// true. 0 met, with that row, 1 committed alone, 2 committed before, 3 left to others, 4 to be searched again: a row that it
+/// may meet was claimed.
 #[unsafe(no_mangle)]
 pub extern "C" fn pcml_search(
     alloc: Global,
     pass: &mut Handle,
     row: PlainRow,
+    alone: bool,
     met: &mut PlainRow,
 ) -> u32
-    ensures told { Told pass.old.kept pass.new.kept result (λ h k. Searched h k (row_in row) met.new result) }
+    ensures told { Told pass.old.kept pass.new.kept result (λ h k. Searched h k (row_in row) alone met.new result) }
     ensures untouched { result ≢ 0 → met.new ≡ met.old }
 {
     let Some(mut kept) = pass.take(alloc) else {
         return EMPTY;
     };
-    let answer = search(&mut kept, row, met);
+    let answer = search(&mut kept, row, alone, met);
     pass.keep(kept);
     answer
 }
 
-fn search(kept: &mut Kept, row: PlainRow, met: &mut PlainRow) -> u32
-    ensures told { Does kept.old kept.new result (λ h k. Searched h k (row_in row) met.new result) }
+fn search(kept: &mut Kept, row: PlainRow, alone: bool, met: &mut PlainRow) -> u32
+    ensures told { Does kept.old kept.new result (λ h k. Searched h k (row_in row) alone met.new result) }
     ensures untouched { result ≢ 0 → met.new ≡ met.old }
 {
     match kept {
-        Kept::Hand(hand) => tell_met(hand.search(row.read()), met),
+        Kept::Hand(hand) => tell_met(hand.search(row.read(), alone), met),
         Kept::Ledger(_) => CLOSED,
         Kept::Nothing => EMPTY,
     }
@@ -157,26 +159,33 @@ pub extern "C" fn pcml_begin(
     pass: &mut Handle,
     row: PlainRow,
     offers: &[PlainOffer],
+    alone: bool,
     met: &mut PlainRow,
 ) -> u32
-    ensures told { Told pass.old.kept pass.new.kept result (λ h k. Began h k (row_in row) offers.now met.new result) }
+    ensures told { Told pass.old.kept pass.new.kept result (λ h k. Began h k (row_in row) offers.now alone met.new result) }
     ensures untouched { result ≢ 0 → met.new ≡ met.old }
 {
     let Some(mut kept) = pass.take(alloc) else {
         return EMPTY;
     };
-    let answer = begin(&mut kept, row, offers, met);
+    let answer = begin(&mut kept, row, offers, alone, met);
     pass.keep(kept);
     answer
 }
 
-fn begin(kept: &mut Kept, row: PlainRow, offers: &[PlainOffer], met: &mut PlainRow) -> u32
-    ensures told { Does kept.old kept.new result (λ h k. Began h k (row_in row) offers.now met.new result) }
+fn begin(
+    kept: &mut Kept,
+    row: PlainRow,
+    offers: &[PlainOffer],
+    alone: bool,
+    met: &mut PlainRow,
+) -> u32
+    ensures told { Does kept.old kept.new result (λ h k. Began h k (row_in row) offers.now alone met.new result) }
     ensures untouched { result ≢ 0 → met.new ≡ met.old }
 {
     match kept {
         Kept::Hand(hand) => match read_offers(offers) {
-            Some(all) => tell_met(hand.begin(row.read(), &all[..offers.len()]), met),
+            Some(all) => tell_met(hand.begin(row.read(), &all[..offers.len()], alone), met),
             None => RANGE,
         },
         Kept::Ledger(_) => CLOSED,

@@ -96,7 +96,7 @@ static void offer(int t) {
     }
     for (size_t i = 0; i < g->count; i++) offers[i] = offer_now(g->offers[i]);
     g->state = WAITING;
-    switch (pcml_begin(&pass, row, offers, g->count, &other)) {
+    switch (pcml_begin(&pass, row, offers, g->count, true, &other)) {
     case PCML_FOUND_MET: settle(t), settle((int)other.thread); return;
     case PCML_FOUND_ALONE: settle(t); return;
     case PCML_FOUND_LEFT: return;

@@ -97,8 +97,8 @@ static pcml_message sync_on(uint32_t t, uint32_t *row, const pcml_offer *offers,
     for (;; *row = 0) {
         if (*row == rows || is_turning()) gather(), *row = 0;
         pcml_row mine = {t, *row}, other;
-        uint32_t came = pcml_begin(&passes[t], mine, offers, count, &other);
-        while (came == PCML_FOUND_AGAIN) came = pcml_search(&passes[t], mine, &other);
+        uint32_t came = pcml_begin(&passes[t], mine, offers, count, true, &other);
+        while (came == PCML_FOUND_AGAIN) came = pcml_search(&passes[t], mine, true, &other);
         if (came > PCML_FOUND_AGAIN) abort();
         if (came == PCML_FOUND_MET) ring(other.thread);
         while (pcml_look(&passes[t], mine) < PCML_CELL_SYNCHED && !is_turning()) wait_for_bell(t);

@@ -21,8 +21,8 @@ static uint64_t sum_of(uint32_t thread, uint32_t sync) { return ((uint64_t)threa
 /* True once the row is committed; false where others have spent their rows, so that nobody may come any more. */
 static bool meet(pcml_pass *pass, pcml_row mine, const pcml_offer *both) {
     pcml_row other;
-    uint32_t came = pcml_begin(pass, mine, both, 2, &other);
-    while (came == PCML_FOUND_AGAIN) came = pcml_search(pass, mine, &other);
+    uint32_t came = pcml_begin(pass, mine, both, 2, true, &other);
+    while (came == PCML_FOUND_AGAIN) came = pcml_search(pass, mine, true, &other);
     if (came > PCML_FOUND_AGAIN) abort();
     while (pcml_look(pass, mine) < PCML_CELL_SYNCHED) {
         if (atomic_load(&spent) >= THREADS - 1) return pcml_look(pass, mine) >= PCML_CELL_SYNCHED;

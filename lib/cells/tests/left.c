@@ -36,8 +36,8 @@ static void *play(void *number) {
             if (t == 0 && pcml_cells_new(threads, rows, 0, passes, threads)) abort();
         }
         pthread_barrier_wait(&gate);
-        uint32_t came = pcml_begin(&passes[t], mine, both, 2, &other);
-        for (; came == PCML_FOUND_AGAIN; came = pcml_search(&passes[t], mine, &other)) atomic_fetch_add(&searched_again, 1);
+        uint32_t came = pcml_begin(&passes[t], mine, both, 2, true, &other);
+        for (; came == PCML_FOUND_AGAIN; came = pcml_search(&passes[t], mine, true, &other)) atomic_fetch_add(&searched_again, 1);
         if (came > PCML_FOUND_AGAIN) abort();
         found[t] = came;
         pthread_barrier_wait(&gate);

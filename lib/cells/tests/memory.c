@@ -19,8 +19,8 @@ static void meet(uint32_t sync) {
     pcml_offer send = {PCML_SEND, 0, 0, {0}}, recv = {PCML_RECV, 0, 0, {0}};
     pcml_row other;
     left = 0; /* none of these takes memory */
-    if (pcml_begin(&passes[0], (pcml_row){0, sync}, &send, 1, &other) != PCML_FOUND_LEFT) abort();
-    if (pcml_begin(&passes[1], (pcml_row){1, sync}, &recv, 1, &other) != PCML_FOUND_MET) abort();
+    if (pcml_begin(&passes[0], (pcml_row){0, sync}, &send, 1, true, &other) != PCML_FOUND_LEFT) abort();
+    if (pcml_begin(&passes[1], (pcml_row){1, sync}, &recv, 1, true, &other) != PCML_FOUND_MET) abort();
     left = -1;
 }
 

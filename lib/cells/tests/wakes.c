@@ -14,7 +14,7 @@ static long rounds, nacked, received, again, lost;
 
 static uint32_t searched(pcml_pass *pass, pcml_row row, uint32_t came) {
     pcml_row other;
-    while (came == PCML_FOUND_AGAIN) came = pcml_search(pass, row, &other);
+    while (came == PCML_FOUND_AGAIN) came = pcml_search(pass, row, true, &other);
     if (came > PCML_FOUND_AGAIN) abort();
     return came;
 }
@@ -22,7 +22,7 @@ static uint32_t searched(pcml_pass *pass, pcml_row row, uint32_t came) {
 static void wait_for_either(pcml_row row) {
     pcml_offer two[2] = {{PCML_ON_NACK, PCML_NACK_OF(1, row.sync), 0, {0, {{0, 0}}}}, {PCML_RECV, 0, 0, {0, {{0, 0}}}}};
     pcml_row other;
-    searched(&passes[0], row, pcml_begin(&passes[0], row, two, 2, &other));
+    searched(&passes[0], row, pcml_begin(&passes[0], row, two, 2, true, &other));
 }
 
 /* Commits a row that encloses nothing, so that its nack is enabled, and wakes row g of thread 0. */
@@ -31,7 +31,7 @@ static void enable(pcml_row row) {
     pcml_row other;
     if (row.sync > 0 && pcml_take(&passes[1], (pcml_row){1, row.sync - 1})) abort();
     if (pcml_bind(&passes[1], row.sync, row, 0)) abort();
-    if (pcml_begin(&passes[1], row, &always, 1, &other) != PCML_FOUND_ALONE) abort();
+    if (pcml_begin(&passes[1], row, &always, 1, true, &other) != PCML_FOUND_ALONE) abort();
     uint32_t came;
     while ((came = pcml_wake(&passes[1], (pcml_row){0, row.sync})) == PCML_FOUND_AGAIN) again++;
     if (came > PCML_FOUND_AGAIN) abort();
@@ -41,7 +41,7 @@ static void enable(pcml_row row) {
 static void offer_to_send(uint32_t *sync, bool *opened) {
     pcml_row row = {2, *sync}, other;
     pcml_offer send = {PCML_SEND, 0, 0, {0, {{0, 0}}}};
-    uint32_t came = *opened ? pcml_search(&passes[2], row, &other) : pcml_begin(&passes[2], row, &send, 1, &other);
+    uint32_t came = *opened ? pcml_search(&passes[2], row, true, &other) : pcml_begin(&passes[2], row, &send, 1, true, &other);
     *opened = searched(&passes[2], row, came) == PCML_FOUND_LEFT;
     if (!*opened) ++*sync;
 }

@@ -35,7 +35,7 @@ fn search(
     ensures sits { Sits directory.now scan.new }
 {
     enter(cells, pass, row(thread), offers);
-    search_once(directory, scan, cells, pass, &NoGate, row(thread))
+    search_once(directory, scan, cells, pass, &NoGate, row(thread), true)
 }
 
 // The row that was found says so when it is searched again.
@@ -50,7 +50,15 @@ fn the_second_of_two_rows_finds_the_first(rt: HostRuntime) -> Result<(), Fail> {
     let sends = [receive(0, 0), send(1, 42)];
     let finds = search(&directory, &mut theirs, &cells, &mut second, 1, &sends);
     assert!(rt; finds == Some(Found::Met(row(0))));
-    let again = search_once(&directory, &mut mine, &cells, &mut first, &NoGate, row(0));
+    let again = search_once(
+        &directory,
+        &mut mine,
+        &cells,
+        &mut first,
+        &NoGate,
+        row(0),
+        true,
+    );
     assert!(rt; again == Some(Found::Already));
     Ok(())
 }

@@ -145,15 +145,16 @@ impl Pass {
     }
 
     /// Takes the row before where it is not held yet, drafts, opens and searches.
-    pub fn begin(&mut self, row: Row, offers: &[Offer]) -> Result<Found, Refused> {
+    pub fn begin(&mut self, row: Row, offers: &[Offer], alone: bool) -> Result<Found, Refused> {
         let mut met = Row::default();
-        let answer = unsafe { raw::pcml_begin(&mut self.0, row, offers.as_ptr(), offers.len(), &mut met) };
+        let answer = unsafe { raw::pcml_begin(&mut self.0, row, offers.as_ptr(), offers.len(), alone, &mut met) };
         found(answer, met)
     }
 
-    pub fn search(&mut self, row: Row) -> Result<Found, Refused> {
+    /// An offer that needs no partner is granted only where `alone` is true.
+    pub fn search(&mut self, row: Row, alone: bool) -> Result<Found, Refused> {
         let mut met = Row::default();
-        let answer = unsafe { raw::pcml_search(&mut self.0, row, &mut met) };
+        let answer = unsafe { raw::pcml_search(&mut self.0, row, alone, &mut met) };
         found(answer, met)
     }
 

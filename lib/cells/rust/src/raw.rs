@@ -22,10 +22,10 @@ extern "C" {
     pub fn pcml_answer(pass: *mut Raw, row: Row, joined: *mut Joined, message: *mut Message) -> u32;
     pub fn pcml_attempt(pass: *mut Raw, mine: Row, own: u32, other: Row, partner: u32) -> u32;
     pub fn pcml_grant(pass: *mut Raw, row: Row, offer: u32) -> u32;
-    pub fn pcml_search(pass: *mut Raw, row: Row, met: *mut Row) -> u32;
+    pub fn pcml_search(pass: *mut Raw, row: Row, alone: bool, met: *mut Row) -> u32;
     pub fn pcml_wake(pass: *mut Raw, row: Row) -> u32;
     pub fn pcml_take(pass: *mut Raw, row: Row) -> u32;
-    pub fn pcml_begin(pass: *mut Raw, row: Row, offers: *const Offer, count: usize, met: *mut Row) -> u32;
+    pub fn pcml_begin(pass: *mut Raw, row: Row, offers: *const Offer, count: usize, alone: bool, met: *mut Row) -> u32;
     pub fn pcml_start(pass: *mut Raw, row: Row, thread: u32) -> u32;
     pub fn pcml_finish(pass: *mut Raw, row: Row) -> u32;
 }

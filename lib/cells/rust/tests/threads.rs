@@ -5,9 +5,9 @@ use std::thread;
 const ROUNDS: u32 = 1_000;
 
 fn meet(pass: &mut Pass, row: Row, offer: Offer) -> Message {
-    let mut found = pass.begin(row, &[offer]).unwrap();
+    let mut found = pass.begin(row, &[offer], true).unwrap();
     while found == Found::Again {
-        found = pass.search(row).unwrap();
+        found = pass.search(row, true).unwrap();
     }
     loop {
         if let Some((_, message)) = pass.answer(row).unwrap() {
@@ -48,8 +48,8 @@ fn two_threads() {
 fn refusals() {
     let mut pass = table(1, 1, 1).unwrap().pop().unwrap();
     assert_eq!(pass.open(Row { thread: 1, sync: 0 }), Err(Refused(19)));
-    assert_eq!(pass.search(Row::default()), Err(Refused(22)));
+    assert_eq!(pass.search(Row::default(), true), Err(Refused(22)));
     assert!(pass.holds(Row::default()));
-    assert_eq!(pass.begin(Row::default(), &[Offer::always(Message::default())]), Ok(Found::Alone));
+    assert_eq!(pass.begin(Row::default(), &[Offer::always(Message::default())], true), Ok(Found::Alone));
     assert_eq!(table(0, 1, 1).err(), Some(Refused(18)));
 }

@@ -7,6 +7,6 @@ returns-in-Some-clause-found g c =
     comes_wider c.scan_lane.new.pass.seen c.args.mine.0 _ _ c.scan_lane.result
     (λ left. (
       left_in_lane c.scan_lane.new.scan.me.0 c.scan_lane.new.pass.seen c.args.mine.0 c.args.direction c.in-Some.both (sym c.lanes.ensures ∙ c.in-Some.is) left,
-      never_alone _ _ c.args.pass.now.seen c.args.mine.0 c.args.mine.1 c.args.direction c.in-Some.both c.requires.here.0.4 c.requires.read (sym c.lanes.ensures ∙ c.in-Some.is),
+      (λ _. never_alone _ _ c.args.pass.now.seen c.args.mine.0 c.args.mine.1 c.args.direction c.in-Some.both c.requires.here.0.4 c.requires.read (sym c.lanes.ensures ∙ c.in-Some.is)),
     ))
     c.scan_lane.ensures.found

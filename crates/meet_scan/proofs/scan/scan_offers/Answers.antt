@@ -1,5 +1,5 @@
 use Rattle.std.proofs.Common.{arith, inl, inr, rules, subst, sym, ◌≡◌, ℕ}
-use Rattle.std.specs.Prelude.{Some, None, get_or}
+use Rattle.std.specs.Prelude.{IsTrue, Some, None, get_or}
 use Rattle.std.proofs.lemmas.Bool.{true≢false}
 use Rattle.meet_scan.specs.Searches.{LacksAt, Lists}
 use Rattle.meet_scan.specs.declared.found.Found.TheVariants.{Alone, Already, Left, Met}
@@ -24,8 +24,8 @@ loop-n-preserved-in_default g c =
     subst (LacksAt c.args.directions.now) c.from.ensures (none_listed (get_or c.args.directions.now c.from.result None) c.in_default.not-Some) in
     let lacks = read_lacks s r c.args.directions.now c.loop-n.n c.loop-n-test.true c.requires.read none in (
       i.0,
-      λ free. left_next v v s t t r c.loop-n.n (more_nothing v) (grows_nothing t) (i.1 free) (inl (lack_more s t r c.loop-n.n i.0.grows lacks))
-          (lacking_alone _ _ s r c.loop-n.n c.requires.here.0.4 lacks),
+      λ free. left_next v v s t t r (IsTrue c.args.alone) c.loop-n.n (more_nothing v) (grows_nothing t) (i.1 free) (inl (lack_more s t r c.loop-n.n i.0.grows lacks))
+          (λ _. lacking_alone _ _ s r c.loop-n.n c.requires.here.0.4 lacks),
       i.2,
     )
 
@@ -46,8 +46,8 @@ loop-n-preserved-in-Some-Left g c =
       goes_then c.args.cells.now c.args.directory.now r c.args.pass.now c.loop-n.pass c.scan_offer.new.pass c.args.scan.now c.loop-n.scan c.scan_offer.new.scan i.0
           (record { here = call.here; grows = call.grows; results = call.results; sits = call.sits; more = call.more; made = left_made r c.loop-n.pass.made c.scan_offer.new.pass.made c.scan_offer.result left call.made }),
       λ free. let came = comes_left u r _ c.scan_offer.result left call.found in
-          left_next v w s t u r c.loop-n.n call.more call.grows (i.1 free) (inr (d, have_more t u r c.loop-n.n d call.grows (have_more s t r c.loop-n.n d i.0.grows have), came.0))
-          (λ can. came.1 (stands_more s t r c.loop-n.n i.0.grows can)),
+          left_next v w s t u r (IsTrue c.args.alone) c.loop-n.n call.more call.grows (i.1 free) (inr (d, have_more t u r c.loop-n.n d call.grows (have_more s t r c.loop-n.n d i.0.grows have), came.0))
+          (λ asked can. came.1 asked (stands_more s t r c.loop-n.n i.0.grows can)),
       λ claimed. held_more c.args.cells.now v w s s t u r call.more (grows_nothing s) call.grows (i.2 claimed),
     )
 
@@ -83,7 +83,7 @@ returns-clause-found g c =
     then_comes c.loop-n.pass.seen c.args.row _ c.loop-n.is_claimed c.then_some.result c.then_some.ensures
     (λ free. (
       (λ k low. (i.1 free k (omega (arith, c.loop-n-test.false))).0),
-      stands_by_no_other s c.args.row c.args.directions.now c.loop-n.n c.loop-n-test.false (λ k low. (i.1 free k low).1),
+      (λ asked. stands_by_no_other s c.args.row c.args.directions.now c.loop-n.n c.loop-n-test.false (λ k low. (i.1 free k low).1 asked)),
     ))
 
 pub returns-in-Some-Met-clause-made : goal.returns-in-Some-Met-clause-made

@@ -3,16 +3,8 @@ use Rattle.std.specs.Prelude.{None, Some}
 use Rattle.meet_scan.specs.declared.found.Found.TheVariants.{Left}
 use Rattle.meet_scan.proofs.Growing.{grows_nothing, grows_then}
 use Rattle.meet_scan.proofs.Reading.{found_left, if_none, stands_nowhere}
-use Rattle.meet_scan.proofs.Scanning.{comes_left, from_again, held_more, left_at_more, more_nothing}
+use Rattle.meet_scan.proofs.Scanning.{comes_left, from_again, held_more, left_scans, more_nothing}
 use Rattle.meet_scan.proofs.scan.search_once.Goals as goal
-
-pub returns-in-Left-clause-left : goal.returns-in-Left-clause-left
-returns-in-Left-clause-left g c is n low =
-    let v = c.scan_offers.new.scan.me.0 in
-    let t = c.scan_offers.new.pass.seen in
-    let left : c.scan_offers.result ≡ Some Left = c.in_ok-found.was ∙ ap Some c.in-Left.is in
-    let came = comes_left t c.args.row _ c.scan_offers.result left c.scan_offers.ensures.found in
-    left_at_more v v t c.leave.new.pass.seen c.args.row n (more_nothing v) c.leave.ensures.grows (came.0 n low)
 
 pub returns-in-Left-clause-found : goal.returns-in-Left-clause-found
 returns-in-Left-clause-found g c =
@@ -21,8 +13,17 @@ returns-in-Left-clause-found g c =
     let t = c.scan_offers.new.pass.seen in
     let left : c.scan_offers.result ≡ Some Left = c.in_ok-found.was ∙ ap Some c.in-Left.is in
     let came = comes_left t c.args.row _ c.scan_offers.result left c.scan_offers.ensures.found in
+    left_scans c.scan_offers.new.scan.me.0 s t c.leave.new.pass.seen c.args.row c.leave.result (grows_then s read t c.own_directions-directions.ensures.grows c.scan_offers.ensures.grows) c.leave.ensures.grows came.0 c.leave.ensures.left
+
+pub returns-in-Left-clause-alone : goal.returns-in-Left-clause-alone
+returns-in-Left-clause-alone g c asked =
+    let s = c.args.pass.now.seen in
+    let read = c.own_directions-directions.new.pass.seen in
+    let t = c.scan_offers.new.pass.seen in
+    let left : c.scan_offers.result ≡ Some Left = c.in_ok-found.was ∙ ap Some c.in-Left.is in
+    let came = comes_left t c.args.row _ c.scan_offers.result left c.scan_offers.ensures.found in
     found_left s t c.leave.new.pass.seen c.args.row c.leave.result (grows_then s read t c.own_directions-directions.ensures.grows c.scan_offers.ensures.grows) c.leave.ensures.left
-    (stands_nowhere s read c.args.row c.own_directions-directions.result c.own_directions-directions.ensures.grows c.own_directions-directions.ensures.short came.1)
+    (stands_nowhere s read c.args.row c.own_directions-directions.result c.own_directions-directions.ensures.grows c.own_directions-directions.ensures.short (came.1 asked))
 
 pub returns-in_err-found-clause-again : goal.returns-in_err-found-clause-again
 returns-in_err-found-clause-again g c =

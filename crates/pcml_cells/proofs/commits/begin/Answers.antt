@@ -11,7 +11,7 @@ returns-in-Some-clause-told c =
     let all = c.in-Some.all in
     let read = c.in-Some.ensures in
     let listed = few_listed plain all (omega (arith, read.few.0, read.few.1)) read.listed in
-    let begun = subst (λ (r : Row). Begins c.in-Hand.hand c.begin.new.self r (take (length plain) all) c.begin.result) c.read.ensures c.begin.ensures in
+    let begun = subst (λ (r : Row). Begins c.in-Hand.hand c.begin.new.self r (take (length plain) all) c.args.alone c.begin.result) c.read.ensures c.begin.ensures in
     by_hand c.args.kept.now c.in-Hand.hand c.begin.new.self c.tell_met.result _ c.in-Hand.is
     (inl (take (length plain) all, listed.0, listed.1, c.begin.result, begun, c.tell_met.ensures.number, c.tell_met.ensures.told))
 

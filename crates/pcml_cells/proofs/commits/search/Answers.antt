@@ -6,4 +6,4 @@ use Rattle.pcml_cells.proofs.commits.search.Goals as goal
 
 pub returns-in-Hand-clause-told : goal.returns-in-Hand-clause-told
 returns-in-Hand-clause-told c =
-    by_hand c.args.kept.now c.in-Hand.hand c.search.new.self c.tell_met.result _ c.in-Hand.is (c.search.result, subst (λ (r : Row). Searches c.in-Hand.hand c.search.new.self r c.search.result) c.read.ensures c.search.ensures, c.tell_met.ensures.number, c.tell_met.ensures.told)
+    by_hand c.args.kept.now c.in-Hand.hand c.search.new.self c.tell_met.result _ c.in-Hand.is (c.search.result, subst (λ (r : Row). Searches c.in-Hand.hand c.search.new.self r c.args.alone c.search.result) c.read.ensures c.search.ensures, c.tell_met.ensures.number, c.tell_met.ensures.told)

@@ -3,8 +3,7 @@ use Rattle.std.specs.Prelude.{None, Some}
 use Rattle.meet_scan.specs.declared.found.Found.TheVariants.{Alone, Already, Left, Met}
 use Rattle.meet_scan.proofs.Growing.{grows_then}
 use Rattle.meet_scan.proofs.Making.{found_made, left_by, made_then, none_made}
-use Rattle.meet_scan.proofs.Scanning.{all_more, comes_left, goes_nothing, goes_then, left_made, read_more}
-use Rattle.meet.proofs.Leaving.{left_scans}
+use Rattle.meet_scan.proofs.Scanning.{all_more, comes_left, goes_nothing, goes_then, left_made, left_scans, read_more}
 use Rattle.meet.proofs.meet.Meet.scan.Goals as goal
 
 pub loop-init : goal.loop-init
