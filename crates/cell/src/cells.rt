@@ -108,7 +108,7 @@ impl<M: Resident> Model for Cells<M> {
 
     ghost view = { λ c. record { id = c.board.words.shared.table_id; threads = c.board.shape.threads; rows = c.board.shape.rows; offers = c.board.shape.offers; passes = c.board.shape.passes; lives = c.board.shape.opening.value.threads.items; nacks = c.board.shape.opening.value.nacks.items; first = c.board.shape.first.value.items } };
 
-    ghost invariant = { λ c. (length c.spare.items ≡ c.board.words.shared.table_id.words) × (0 < length c.board.shape.first.value.items → M.houses ≡ true) × (1 ≤ c.board.shape.rows) × (M.houses ≡ false → c.board.shape.offers ≡ 8) × (c.board.shape.threads ≤ 64) };
+    ghost invariant = { λ c. (length c.spare.items ≡ c.board.words.shared.table_id.words) × (0 < length c.board.shape.first.value.items → M.houses ≡ true) × (1 ≤ c.board.shape.rows) × (c.board.shape.threads ≤ 64) };
 }
 
 /// What a thread calls the table with. It holds rows, and its value is what it has seen.
@@ -222,8 +222,32 @@ impl Cells<Bare> {
         ensures passes { IfOk result (λ t. (number : ℕ) (pass : PassView) → slice_get t.1.items number ≡ Some pass → IsPassOf t.0 pass × (pass.seen ≡ seen_nothing (dealt_from (start_opening threads later) threads passes number)) × (pass.made ≡ [])) }
         ensures results { IfOk result (λ t. (number : ℕ) (pass : PassView) → slice_get t.1.items number ≡ Some pass → (pass.results ≡ []) × (pass.out ≡ [])) }
     {
+        Cells::new_short(alloc, threads, rows, OFFERS as u8, passes, later)
+    }
+
+    /// The same of rows that have room for `offers` offers, 0 to 8: a row takes 2 words, and 4 for each offer, where
+    /// those of the other tables take 34.
+    pub fn new_short(
+        alloc: Global,
+        threads: u8,
+        rows: u16,
+        offers: u8,
+        passes: u8,
+        later: u64,
+    ) -> Result<(Cells<Bare>, Vec<Pass<Bare>>), AllocError>
+        requires threads { (1 ≤ threads) × (threads ≤ 64) }
+        requires rows { (1 ≤ rows) × (rows ≤ 1024) }
+        requires offers { offers ≤ 8 }
+        requires passes { (1 ≤ passes) × (passes ≤ 16) }
+        ensures size { IfOk result (λ t. (t.0.threads ≡ threads) × (t.0.rows ≡ rows) × (t.0.passes ≡ passes) × (length t.1.items ≡ passes)) }
+        ensures room { IfOk result (λ t. t.0.offers ≡ offers) }
+        ensures first { IfOk result (λ t. t.0.first ≡ []) }
+        ensures opening { IfOk result (λ t. opening_at t.0 ≡ start_opening threads later) }
+        ensures passes { IfOk result (λ t. (number : ℕ) (pass : PassView) → slice_get t.1.items number ≡ Some pass → IsPassOf t.0 pass × (pass.seen ≡ seen_nothing (dealt_from (start_opening threads later) threads passes number)) × (pass.made ≡ [])) }
+        ensures results { IfOk result (λ t. (number : ℕ) (pass : PassView) → slice_get t.1.items number ≡ Some pass → (pass.results ≡ []) × (pass.out ≡ [])) }
+    {
         let opening = Opening::first(alloc, threads, later)?;
-        Cells::over(alloc, &opening, Vec::new(alloc), rows, OFFERS as u8, passes)
+        Cells::over(alloc, &opening, Vec::new(alloc), rows, offers, passes)
     }
 }
 
@@ -403,7 +427,6 @@ impl<M: Resident + Drop> Cells<M> {
         requires machines { AreMachines (opening_of opening.now) first.items }
         requires rows { (1 ≤ rows) × (rows ≤ 1024) }
         requires offers { offers ≤ 8 }
-        requires whole { M.houses ≡ false → offers ≡ 8 }
         requires passes { (1 ≤ passes) × (passes ≤ 16) }
         ensures size { IfOk result (λ t. (t.0.threads ≡ length opening.now.threads.items) × (t.0.rows ≡ rows) × (t.0.passes ≡ passes) × (length t.1.items ≡ passes)) }
         ensures room { IfOk result (λ t. t.0.offers ≡ offers) }
@@ -515,6 +538,13 @@ impl<M: Resident> Cells<M> {
         ensures { IsTrue result ↔ IsRowOf self.now row }
     {
         self.board.has(row)
+    }
+
+    /// Whether a row has room for so many offers.
+    pub fn has_room(&self, count: usize) -> bool
+        ensures { IsTrue result ↔ count ≤ self.now.offers }
+    {
+        self.board.has_room(count)
     }
 
     /// That a table has at most 64 threads. It does nothing when it runs.
@@ -715,13 +745,13 @@ impl<M: Resident> Cells<M> {
     }
 
     /// Writes a list of at most 8 offers for a held row that is not opened yet, in place of the list that was written
-    /// before. In a table of machines the rows have room for them.
+    /// before. The rows have room for them.
     pub fn draft(&self, pass: &mut Pass<M>, row: Row, offers: &[Offer])
         requires here { IsPassOf self.now pass.old × IsRowOf self.now row }
         requires fresh { Has pass.old.seen.held row × (¬ Has pass.old.seen.opened row) }
         requires alive { ¬ SawEnded pass.old.seen row.thread }
         requires offers { AreOffers offers.now }
-        requires room { M.houses ≡ true → length offers.now ≤ self.now.offers }
+        requires room { length offers.now ≤ self.now.offers }
         ensures here { IsPassOf self.now pass.new }
         ensures others { Redrafts (λ q p. q ≡ row) pass.old.seen pass.new.seen }
         ensures drafted { IsDraft pass.new.seen row offers.now }

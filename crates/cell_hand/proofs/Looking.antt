@@ -19,13 +19,13 @@ use Rattle.cell_table.specs.declared.view.Seen.{Seen}
 use Rattle.cell_table.specs.Sight.{Has, SawEnded, see_cell, see_held}
 use Rattle.atomic_table.specs.declared.shared.Seat.{Seat}
 use Rattle.meet_directory.specs.declared.view.View.{View}
-use Rattle.meet_scan.specs.Leaving.{IsHeldUp, KnowsMore, ScansTo}
+use Rattle.meet_scan.specs.Leaving.{IsHeldUp, KnowsMore, ScansTo, TriesFirst}
 use Rattle.meet_scan.specs.Searches.{Finds, Grows}
 use Rattle.meet_scan.specs.Steps.{SearchMade, found_or_left}
 use Rattle.meet_scan.specs.declared.found.Found.{Found}
 use Rattle.meet_scan.specs.declared.found.Found.TheVariants.{Alone, Already, Left, Met}
 use Rattle.meet_scan.proofs.Growing.{grows_nothing, grows_then, saw_more, stands_more}
-use Rattle.meet_scan.proofs.Scanning.{held_more, more_nothing}
+use Rattle.meet_scan.proofs.Scanning.{held_more, more_nothing, tries_sooner}
 use Rattle.cell_hand.specs.Hands.{CanAttempt, CanDraft, HandOf, Looked, Stays}
 use Rattle.cell_hand.specs.Calls.{Attempts, Binds, IsDrafted, IsSearched, Searches}
 
@@ -79,19 +79,24 @@ again_sooner t u v s m k r (Some f) same g held = held
 again_sooner t u v s m k r None same g held =
     subst (λ (w : Grid). IsHeldUp w v s k r) same (held_more u v v s m k k r (more_nothing v) g (grows_nothing k) held)
 
-pub searched_sooner : (h m k : HandOf) (r : Row) (alone : Bool) (came : Option Found) → Looked h m → IsSearched m k r alone came → IsSearched h k r alone came
-searched_sooner h m k r alone came looked x = record {
+tries_from_sooner : (t u : Grid) (v : View) (s m k : Seen) (r : Row) (first : ℕ) (came : Option Found) → u ≡ t → Grows s m → IfSome came (TriesFirst u v m k r first) → IfSome came (TriesFirst t v s k r first)
+tries_from_sooner t u v s m k r first None same g tries = tries
+tries_from_sooner t u v s m k r first (Some found) same g tries = subst (λ (w : Grid). TriesFirst w v s k r first found) same (tries_sooner u v s m k r first found g tries)
+
+pub searched_sooner : (h m k : HandOf) (r : Row) (first : ℕ) (alone : Bool) (came : Option Found) → Looked h m → IsSearched m k r first alone came → IsSearched h k r first alone came
+searched_sooner h m k r first alone came looked x = record {
   table = (x.table.0 ∙ looked.0.0, x.table.1 ∙ looked.0.1);
   grows = grows_then h.pass.seen m.pass.seen k.pass.seen looked.1 x.grows;
   more = subst (λ (v : View). KnowsMore v k.scan.me.0) (ap (λ (s : Seat (Unit {0}) View). s.me.0) looked.0.2) x.more;
   made = subst (λ (steps : List Step). SearchMade r (found_or_left came) steps k.pass.made) looked.2.0 x.made;
   found = scans_sooner k.scan.me.0 h.pass.seen m.pass.seen k.pass.seen r came looked.1 x.found;
   granted = λ asked. finds_sooner h.pass.seen m.pass.seen k.pass.seen r came looked.1 (x.granted asked);
+  tried = tries_from_sooner h.table m.table k.scan.me.0 h.pass.seen m.pass.seen k.pass.seen r first came looked.0.0 looked.1 x.tried;
   again = again_sooner h.table m.table k.scan.me.0 h.pass.seen m.pass.seen k.pass.seen r came looked.0.0 looked.1 x.again;
 }
 
-pub searches : (h m k : HandOf) (r : Row) (alone : Bool) (came : Option Found) → Looked h m → CanAttempt m r → IsSearched m k r alone came → Searches h k r alone (Ok came)
-searches h m k r alone came looked can x = (can_then m k r can x.table.0 x.grows, searched_sooner h m k r alone came looked x)
+pub searches : (h m k : HandOf) (r : Row) (first : ℕ) (alone : Bool) (came : Option Found) → Looked h m → CanAttempt m r → IsSearched m k r first alone came → Searches h k r first alone (Ok came)
+searches h m k r first alone came looked can x = (can_then m k r can x.table.0 x.grows, searched_sooner h m k r first alone came looked x)
 
 -- how the row was committed shows in its cell
 pub joined_seen : (r : Row) (c : Cell) (j : Joined) (s : Seen) → joined_of c ≡ Some j → Has (see_cell r c s).joined (r, j)

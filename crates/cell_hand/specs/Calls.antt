@@ -1,5 +1,5 @@
 -- What each call comes to, by the hand before it and after it.
-use Rattle.std.specs.Prelude.{⊤, All, map, ◌≡◌, ◌⊎◌, ℕ, ◌<◌, ◌≤◌, Bool, true, false, Option, Some, None, IfSome, IfNone, IsTrue, Result, Ok, Err, List, [], ◌∷◌}
+use Rattle.std.specs.Prelude.{length, ⊤, All, map, ◌≡◌, ◌⊎◌, ℕ, ◌<◌, ◌≤◌, Bool, true, false, Option, Some, None, IfSome, IfNone, IsTrue, Result, Ok, Err, List, [], ◌∷◌}
 use Rattle.protocol_values.specs.declared.Binding.{Binding}
 use Rattle.protocol_values.specs.declared.Cell.{Cell}
 use Rattle.protocol_values.specs.declared.Course.{Course}
@@ -19,7 +19,7 @@ use Rattle.cell_table.specs.Nacks.{CanStandAlone, IsSeenBound}
 use Rattle.cell_table.specs.declared.view.Seen.{Seen}
 use Rattle.cell_table.specs.Rule.{dealt_from, seen_nothing}
 use Rattle.cell_table.specs.Sight.{Has, IsBefore, IsDraft, IsExpected, IsExpectedCourse, IsKnownOpen, IsResult, LackOffer, Redrafts, SawCommitted, SeesOffer, see_cell, see_course}
-use Rattle.meet_scan.specs.Leaving.{IsHeldUp, KnowsMore, ScansTo}
+use Rattle.meet_scan.specs.Leaving.{IsHeldUp, KnowsMore, ScansTo, TriesFirst}
 use Rattle.meet_scan.specs.Searches.{Finds, Grows, IsAlone}
 use Rattle.meet_scan.specs.Steps.{OnlyLooks, SearchMade, found_or_left}
 use Rattle.meet_scan.specs.declared.found.Found.{Found}
@@ -29,13 +29,14 @@ use Rattle.cell_hand.specs.declared.refusal.Refusal.{Refusal}
 use Rattle.cell_hand.specs.declared.refusal.Refusal.TheVariants.{Range}
 
 -- how large a table may be
-abbrev pub CanDeal : ℕ → ℕ → ℕ → Type 0
-CanDeal threads rows passes = (1 ≤ threads) × (threads ≤ 64) × (1 ≤ rows) × (rows ≤ 1024) × (1 ≤ passes) × (passes ≤ 16)
+abbrev pub CanDeal : ℕ → ℕ → ℕ → ℕ → Type 0
+CanDeal threads rows offers passes = (1 ≤ threads) × (threads ≤ 64) × (1 ≤ rows) × (rows ≤ 1024) × (1 ≤ offers) × (offers ≤ 8) × (1 ≤ passes) × (passes ≤ 16)
 
--- a hand of a new table, where the threads of this mask wait to be started: pass `number` of so many
-abbrev pub IsDealt : ℕ → ℕ → ℕ → ℕ → ℕ → HandOf → Type 0
-IsDealt threads rows later passes number h =
-    (h.table.threads ≡ threads) × (h.table.rows ≡ rows) × (h.table.passes ≡ passes)
+-- a hand of a new table, whose rows have room for so many offers, and where the threads of this mask wait to be started: pass
+-- `number` of so many
+abbrev pub IsDealt : ℕ → ℕ → ℕ → ℕ → ℕ → ℕ → HandOf → Type 0
+IsDealt threads rows offers later passes number h =
+    (h.table.threads ≡ threads) × (h.table.rows ≡ rows) × (h.table.offers ≡ offers) × (h.table.passes ≡ passes)
     × (h.pass.seen ≡ seen_nothing (dealt_from (start_opening threads later) threads passes number)) × (h.pass.made ≡ [])
 
 -- a hand for each of these passes, in their order
@@ -83,9 +84,14 @@ abbrev pub IsDrafted : HandOf → HandOf → Row → List Offer → Type 0
 IsDrafted h k r offers =
     Stays h k × IsDraft k.pass.seen r offers × OnlyDrafts r h.pass.made k.pass.made × Redrafts (λ q p. q ≡ r) h.pass.seen k.pass.seen
 
+-- there are more of them than a row has room for: nothing changes
+abbrev pub TooMany : HandOf → HandOf → List Offer → Refusal → Type 0
+TooMany h k offers e = (h.table.offers < length offers) × (k ≡ h) × (e ≡ Range)
+
 abbrev pub Drafts : HandOf → HandOf → Row → List Offer → Result ⊤ Refusal → Type 0
-Drafts h k r offers (Ok done) = CanDraft h r × ((looked : HandOf) × Looked h looked × IsDrafted looked k r offers)
-Drafts h k r offers (Err e) = Looked h k × NotFresh h k r e
+Drafts h k r offers (Ok done) =
+    (length offers ≤ h.table.offers) × CanDraft h r × ((looked : HandOf) × Looked h looked × IsDrafted looked k r offers)
+Drafts h k r offers (Err e) = TooMany h k offers e ⊎ (Looked h k × NotFresh h k r e)
 
 -- bound now, or bound or carried before
 abbrev pub Binds : HandOf → HandOf → ℕ → Row → ℕ → Result Bool Refusal → Type 0
@@ -122,20 +128,21 @@ Takes h k r (Ok (Some j)) = Stays h k × Took h.table.rows h.pass.seen k.pass.se
 Takes h k r (Ok None) = Looked h k × (SawCommitted h.pass.seen r → Has k.pass.seen.taken r)
 Takes h k r (Err e) = (k ≡ h) × NotThere h r e
 
--- What a search came to, where offers that need no partner were granted or not. None: it is to be made again, and what holds it up
--- is named.
-pub record IsSearched (h k : HandOf) (r : Row) (alone : Bool) (came : Option Found) : Type 0 where
+-- What a search came to that begins with a thread, where offers that need no partner were granted or not. None: it is to be made again,
+-- and what holds it up is named.
+pub record IsSearched (h k : HandOf) (r : Row) (first : ℕ) (alone : Bool) (came : Option Found) : Type 0 where
   pub table : (k.table ≡ h.table) × (k.board ≡ h.board)
   pub grows : Grows h.pass.seen k.pass.seen
   pub more : KnowsMore h.scan.me.0 k.scan.me.0
   pub made : SearchMade r (found_or_left came) h.pass.made k.pass.made
   pub found : IfSome came (ScansTo k.scan.me.0 h.pass.seen k.pass.seen r)
   pub granted : IsTrue alone → IfSome came (Finds h.pass.seen k.pass.seen r)
+  pub tried : IfSome came (TriesFirst h.table k.scan.me.0 h.pass.seen k.pass.seen r first)
   pub again : IfNone came (IsHeldUp h.table k.scan.me.0 h.pass.seen k.pass.seen r)
 
-abbrev pub Searches : HandOf → HandOf → Row → Bool → Result (Option Found) Refusal → Type 0
-Searches h k r alone (Ok found) = CanAttempt k r × IsSearched h k r alone found
-Searches h k r alone (Err e) = Looked h k × NotOpened h r e
+abbrev pub Searches : HandOf → HandOf → Row → ℕ → Bool → Result (Option Found) Refusal → Type 0
+Searches h k r first alone (Ok found) = CanAttempt k r × IsSearched h k r first alone found
+Searches h k r first alone (Err e) = Looked h k × NotOpened h r e
 
 -- SEVERAL CALLS IN ONE
 
@@ -145,11 +152,11 @@ Reaches h k r (Ok done) = CanDraft k r × Stays h k × ((k.pass.made ≡ h.pass.
 Reaches h k r (Err e) = Looked h k × NotFresh h k r e
 
 -- it is reached, drafted, opened and searched, one after the other
-abbrev pub Begins : HandOf → HandOf → Row → List Offer → Bool → Result (Option Found) Refusal → Type 0
-Begins h k r offers alone (Ok found) =
-    (reached : HandOf) × Reaches h reached r (Ok tt) × (drafted : HandOf) × IsDrafted reached drafted r offers
-    × (opened : HandOf) × Made drafted opened (Open r ∷ []) × IsSearched opened k r alone found
-Begins h k r offers alone (Err e) = Looked h k × NotFresh h k r e
+abbrev pub Begins : HandOf → HandOf → Row → List Offer → ℕ → Bool → Result (Option Found) Refusal → Type 0
+Begins h k r offers first alone (Ok found) =
+    (length offers ≤ h.table.offers) × (reached : HandOf) × Reaches h reached r (Ok tt) × (drafted : HandOf) × IsDrafted reached drafted r offers
+    × (opened : HandOf) × Made drafted opened (Open r ∷ []) × IsSearched opened k r first alone found
+Begins h k r offers first alone (Err e) = TooMany h k offers e ⊎ (Looked h k × NotFresh h k r e)
 
 -- LIVES
 

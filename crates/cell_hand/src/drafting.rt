@@ -1,6 +1,6 @@
 //! A row before it stands.
 
-ghost use Rattle.std.specs.Prelude.{◌≡◌, ◌<◌, [], ◌∷◌};
+ghost use Rattle.std.specs.Prelude.{◌≡◌, ◌<◌, ◌≤◌, [], ◌∷◌, length};
 ghost use Rattle.cell_table.specs.Sight.{AreOffers, Has};
 ghost use Rattle.cell_hand.specs.Calls.{Binds, Drafts, IsDrafted, Opens};
 ghost use Rattle.cell_hand.specs.Hands.{CanAttempt, CanDraft, Made};
@@ -11,11 +11,13 @@ use crate::refusal::Refusal;
 use protocol_values::{Offer, Row};
 
 impl Hand {
-    /// Writes the offers of a held row that is not opened yet, in place of those that were written before.
+    /// Writes the offers of a held row that is not opened yet, in place of those that were written before: no more than the
+    /// table's rows have room for.
     pub fn draft(&mut self, row: Row, offers: &[Offer]) -> Result<(), Refusal>
         requires offers { AreOffers offers.now }
         ensures { Drafts self.old self.new row offers.now result }
     {
+        self.test_room(offers)?;
         self.test_fresh(row)?;
         self.write(row, offers);
         Ok(())
@@ -23,7 +25,7 @@ impl Hand {
 
     pub(crate) fn write(&mut self, row: Row, offers: &[Offer])
         requires fresh { CanDraft self.old row }
-        requires offers { AreOffers offers.now }
+        requires offers { AreOffers offers.now × (length offers.now ≤ self.old.table.offers) }
         ensures { IsDrafted self.old self.new row offers.now }
     {
         self.table.cells.draft(&mut self.pass, row, offers);

@@ -15,7 +15,7 @@ use crate::refusal::Refusal;
 use cell::{Bare, Cells, Pass};
 use meet_directory::{Directory, DirectoryPass};
 use protocol::Ledger;
-use protocol_values::{Cell, Course, Row};
+use protocol_values::{Cell, Course, Offer, Row};
 use std::alloc::Global;
 use std::marker::Model;
 use std::sync::Arc;
@@ -49,31 +49,41 @@ impl Model for Hand {
 }
 
 /// How large a table may be.
-fn can_deal(threads: u8, rows: u16, passes: u8) -> bool
-    ensures { MatchBool result (CanDeal threads rows passes) (¬ CanDeal threads rows passes) }
+fn can_deal(threads: u8, rows: u16, offers: u8, passes: u8) -> bool
+    ensures { MatchBool result (CanDeal threads rows offers passes) (¬ CanDeal threads rows offers passes) }
 {
-    1 <= threads && threads <= 64 && 1 <= rows && rows <= 1024 && 1 <= passes && passes <= 16
+    1 <= threads
+        && threads <= 64
+        && 1 <= rows
+        && rows <= 1024
+        && 1 <= offers
+        && offers <= 8
+        && 1 <= passes
+        && passes <= 16
 }
 
 impl Hand {
-    /// A table of so many threads and rows, and a hand for each of its passes: 1 to 64 threads, 1 to 1024 rows, 1 to 16
-    /// passes. Row 0 of thread t is held by hand `t mod passes`, unless t is in the mask `later`: then it waits to be started.
+    /// A table of so many threads and rows, and a hand for each of its passes: 1 to 64 threads, 1 to 1024 rows with room for
+    /// 1 to 8 offers each, 1 to 16 passes. Row 0 of thread t is held by hand `t mod passes`, unless t is in the mask `later`:
+    /// then it waits to be started.
     pub fn deal(
         alloc: Global,
         threads: u8,
         rows: u16,
+        offers: u8,
         later: u64,
         passes: u8,
     ) -> Result<Vec<Hand>, Refusal>
         ensures count { IfOk result (λ hands. length hands.items ≡ passes) }
-        ensures dealt { IfOk result (λ hands. (number : ℕ) (h : HandOf) → slice_get hands.items number ≡ Some h → IsDealt threads rows later passes number h) }
-        ensures range { IfOk result (λ _. CanDeal threads rows passes) }
-        ensures refused { IfErr result (λ e. (e ≡ Memory) ⊎ ((e ≡ Range) × (¬ CanDeal threads rows passes))) }
+        ensures dealt { IfOk result (λ hands. (number : ℕ) (h : HandOf) → slice_get hands.items number ≡ Some h → IsDealt threads rows offers later passes number h) }
+        ensures range { IfOk result (λ _. CanDeal threads rows offers passes) }
+        ensures refused { IfErr result (λ e. (e ≡ Memory) ⊎ ((e ≡ Range) × (¬ CanDeal threads rows offers passes))) }
     {
-        if !can_deal(threads, rows, passes) {
+        if !can_deal(threads, rows, offers, passes) {
             return Err(Refusal::Range);
         }
-        let Ok((cells, passes)) = Cells::new_later(alloc, threads, rows, passes, later) else {
+        let Ok((cells, passes)) = Cells::new_short(alloc, threads, rows, offers, passes, later)
+        else {
             return Err(Refusal::Memory);
         };
         let Ok((directory, scan)) = Directory::new(alloc, LANES) else {
@@ -132,6 +142,17 @@ impl Hand {
         ensures { IsTrue result ↔ HoldsAt self.now.pass row }
     {
         self.pass.holds(row)
+    }
+
+    /// Tests that a row has room for so many offers.
+    pub(crate) fn test_room(&self, offers: &[Offer]) -> Result<(), Refusal>
+        ensures room { IfOk result (λ _. length offers.now ≤ self.now.table.offers) }
+        ensures refused { IfErr result (λ e. (self.now.table.offers < length offers.now) × (e ≡ Range)) }
+    {
+        if !self.table.cells.has_room(offers.len()) {
+            return Err(Refusal::Range);
+        }
+        Ok(())
     }
 
     /// Tests that the table has the row and the pass holds it.

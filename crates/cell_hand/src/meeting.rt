@@ -60,18 +60,19 @@ impl Hand {
         Ok(self.table.cells.take(&mut self.pass, row))
     }
 
-    /// Searches for a row that this held opened one can meet. It waits for nobody. None: one of them was claimed, and the
-    /// search is to be made again. An offer that needs no partner is granted only if so asked.
-    pub fn search(&mut self, row: Row, alone: bool) -> Result<Option<Found>, Refusal>
-        ensures { Searches self.old self.new row alone result }
+    /// Searches for a row that this held opened one can meet, first for that of thread `first`, if the table has such a
+    /// thread. It waits for nobody. None: one of them was claimed, and the search is to be made again. An offer that needs no
+    /// partner is granted only if so asked.
+    pub fn search(&mut self, row: Row, first: u8, alone: bool) -> Result<Option<Found>, Refusal>
+        ensures { Searches self.old self.new row first alone result }
     {
         self.test_opened(row)?;
-        Ok(self.search_opened(row, alone))
+        Ok(self.search_opened(row, first, alone))
     }
 
-    pub(crate) fn search_opened(&mut self, row: Row, alone: bool) -> Option<Found>
+    pub(crate) fn search_opened(&mut self, row: Row, first: u8, alone: bool) -> Option<Found>
         requires opened { CanAttempt self.old row }
-        ensures { IsSearched self.old self.new row alone result }
+        ensures { IsSearched self.old self.new row first alone result }
     {
         search_once(
             &self.table.directory,
@@ -80,6 +81,7 @@ impl Hand {
             &mut self.pass,
             &NoGate,
             row,
+            first,
             alone,
         )
     }
@@ -89,15 +91,17 @@ impl Hand {
         &mut self,
         row: Row,
         offers: &[Offer],
+        first: u8,
         alone: bool,
     ) -> Result<Option<Found>, Refusal>
         requires offers { AreOffers offers.now }
-        ensures { Begins self.old self.new row offers.now alone result }
+        ensures { Begins self.old self.new row offers.now first alone result }
     {
+        self.test_room(offers)?;
         self.reach(row)?;
         self.write(row, offers);
         self.open_fresh(row);
-        Ok(self.search_opened(row, alone))
+        Ok(self.search_opened(row, first, alone))
     }
 
     /// Has the pass hold the row, not opened: by a take of the row before it, where it is held by none.

@@ -55,6 +55,13 @@ impl<M: Resident> Board<M> {
         u64::from(nack.thread) < self.shape.threads && usize::from(nack.k) < NACKS
     }
 
+    /// Whether a row has room for so many offers.
+    pub fn has_room(&self, count: usize) -> bool
+        ensures { IsTrue result ↔ count ≤ self.now.shape.offers }
+    {
+        count as u64 <= self.shape.offers
+    }
+
     // how many words a row has
     pub(crate) fn row_len(&self) -> usize
         ensures { result ≡ row_len self.now.shape.offers }

@@ -107,7 +107,7 @@ pub if_none : {A : Type 0} {P : Type 0} (x : Option A) → P → IfNone x P
 if_none None p = p
 if_none (Some a) p = tt
 
-pub none_listed : (x : Option Direction) → ((d : Direction) → x ≢ Some d) → x ≡ None
+pub none_listed : {A : Type 0} (x : Option A) → ((d : A) → x ≢ Some d) → x ≡ None
 none_listed None none = refl
 none_listed (Some d) none = absurd (none d refl)
 
@@ -120,6 +120,10 @@ stands_by_none s r directions n lacks before m listed = by_case (Rattle.std.proo
     by_case false e = absurd (listed n (ltb-false m n e) lacks)
 
 -- there are eight at most
+-- what had been seen before was seen to let it stand no more
+pub stands_by_none_sooner : (s t : Seen) (r : Row) (directions : List (Option Direction)) → Grows s t → StandsByNone t r directions → StandsByNone s r directions
+stands_by_none_sooner s t r directions g none n listed can = none n listed (stands_more s t r n g can)
+
 pub stands_by_no_other : (s : Seen) (r : Row) (directions : List (Option Direction)) (n : ℕ) → 8 ≤ n → ((k : ℕ) → k < n → ¬ CanStandAlone s r k) → StandsByNone s r directions
 stands_by_no_other s r directions n all before m listed can =
     let told = sees_direction s r m can.0 can.1 in

@@ -17,7 +17,7 @@ use Rattle.cell_table.specs.declared.view.Seen.{Seen}
 use Rattle.cell_table.specs.Sight.{Coherent, Has, HaveDirection, LackOffer, SawCommitted}
 use Rattle.meet_directory.specs.declared.view.View.{View}
 use Rattle.meet_directory.specs.Directory.{HasBit, Missed, NoBitBetween, NoPairMissed, Opened, Published, glimpse, saw, Has as HasMark}
-use Rattle.meet_scan.specs.Leaving.{ArePublished, AreRead, CannotPass, ComesTo, IsDoneWith, IsHeldUp, IsLeft, IsLeftAt, IsLeftFor, IsLeftRow, IsPast, KnowsMore, MeetsNoneAt, NoPairLeft, PassedBy, ScansTo, lanes_of}
+use Rattle.meet_scan.specs.Leaving.{ArePublished, AreRead, CannotPass, ComesTo, IsDoneWith, IsHeldUp, IsHeldUpBy, IsLeft, IsLeftAt, IsLeftFor, IsLeftRow, IsPast, IsTried, IsTriedAt, IsTriedFor, KnowsMore, MeetsNoneAt, MeetsOnly, NoPairLeft, PassedBy, ScansTo, TriesFirst, lanes_of}
 use Rattle.meet_scan.specs.Searches.{FoundAt, Grows, LacksAt, Leaves, Lists}
 use Rattle.meet_scan.specs.Steps.{SearchMade, found_or_left}
 use Rattle.protocol_values.specs.declared.Step.{Step}
@@ -418,8 +418,9 @@ held_more g v w a s t u r more before after held = record {
 
 -- the directory named this row
 pub held_by : {M : Type 0} (g : GridOf M) (v w : View) (s t : Seen) (r q : Row) (own count : ℕ) → Published v.marks r.thread r.sync own → w ≡ saw q.thread count v → count ≡ q.sync + 1 → r.thread ≢ q.thread
-    → CannotPass g s t r q → IsHeldUp g w s t r
-held_by g v w s t r q own count published look is apart stops = record { other = q; own = own; apart = apart; named = (glimpse q.thread count v, saw_it v w q.thread count look, published, refl, is); stops = stops }
+    → CannotPass g s t r q → IsHeldUpBy g w s t r q.thread
+held_by g v w s t r q own count published look is apart stops =
+    (record { other = q; own = own; apart = apart; named = (glimpse q.thread count v, saw_it v w q.thread count look, published, refl, is); stops = stops }, refl)
 
 pub then_none : {P : Type 0} (claimed : Bool) (found : Option Found) → found ≡ then_some (not claimed) Left → (claimed ≡ true → P) → IfNone found P
 then_none {P} false found is holds = subst (λ (f : Option Found). IfNone f P) (sym is) tt
@@ -431,3 +432,58 @@ none_holds (Some x) f p = tt
 
 pub from_again : {P : Type 0} (found : Option Found) → found ≡ None → IfNone found P → P
 from_again {P} found none again = subst (λ (f : Option Found). IfNone f P) none again
+
+-- TRIED FIRST: who was tried stays so
+pub held_by_more : {M : Type 0} (g : GridOf M) (v w : View) (a s t u : Seen) (r : Row) (first : ℕ) → KnowsMore v w → Grows a s → Grows t u → IsHeldUpBy g v s t r first → IsHeldUpBy g w a u r first
+unfolding held_more
+held_by_more g v w a s t u r first more before after held = (held_more g v w a s t u r more before after held.0, held.1)
+
+pub tried_at_more : {M : Type 0} (g : GridOf M) (v w : View) (a s t u : Seen) (r : Row) (first n : ℕ) → KnowsMore v w → Grows a s → Grows t u → IsTriedAt g v s t r first n → IsTriedAt g w a u r first n
+tried_at_more g v w a s t u r first n more before after (inl l) = inl (lack_more t u r n after l)
+tried_at_more g v w a s t u r first n more before after (inr (d, have, tried)) =
+    inr (
+      d,
+      have_more t u r n d after have,
+      λ l m e. ⊎_elim
+          (λ (done : IsDoneWith v t r d l m first). inl (done_more v w t u r d l m first more after done))
+          (λ (held : IsHeldUpBy g v s t r first). inr (held_by_more g v w a s t u r first more before after held))
+          (tried l m e),
+    )
+
+pub tried_more : {M : Type 0} (g : GridOf M) (v w : View) (a s t u : Seen) (r : Row) (first : ℕ) → KnowsMore v w → Grows a s → Grows t u → IsTried g v s t r first → IsTried g w a u r first
+tried_more g v w a s t u r first more before after tried low apart n few = tried_at_more g v w a s t u r first n more before after (tried low apart n few)
+
+-- for the first offers
+abbrev pub AreTried : {M : Type 0} → GridOf M → View → Seen → Seen → Row → ℕ → ℕ → Type 0
+AreTried g v s t r first n = (k : ℕ) → k < n → IsTriedAt g v s t r first k
+
+-- and one more
+pub tried_next : {M : Type 0} (g : GridOf M) (v w : View) (s t u : Seen) (r : Row) (first n : ℕ) → KnowsMore v w → Grows t u → AreTried g v s t r first n → IsTriedAt g w s u r first n → AreTried g w s u r first (n + 1)
+tried_next g v w s t u r first n more after before here =
+    next_of (λ (k : ℕ). IsTriedAt g v s t r first k) (λ (k : ℕ). IsTriedAt g w s u r first k) n
+    (λ k h. tried_at_more g v w s s t u r first k more (grows_nothing s) after h) before here
+
+-- for an offer that has this lane, or none
+pub tried_in_lane : {M : Type 0} (g : GridOf M) (v : View) (s t : Seen) (r : Row) (d : Direction) (both : ℕ × ℕ) (first : ℕ) → lanes_of d ≡ Some both
+    → IsDoneWith v t r d both.0 both.1 first ⊎ IsHeldUpBy g v s t r first → IsTriedFor g v s t r d first
+tried_in_lane g v s t r d both first is tried l m e = subst (λ (z : ℕ × ℕ). IsDoneWith v t r d z.0 z.1 first ⊎ IsHeldUpBy g v s t r first) (one_lane d both (l, m) is e) tried
+
+pub tried_nowhere : {M : Type 0} (g : GridOf M) (v : View) (s t : Seen) (r : Row) (d : Direction) (first : ℕ) → lanes_of d ≡ None → IsTriedFor g v s t r d first
+tried_nowhere g v s t r d first none l m e = absurd (no_lane d (l, m) none e)
+
+-- what a search that has tried it comes to
+tried_tries : {M : Type 0} (g : GridOf M) (v : View) (s t : Seen) (r : Row) (first : ℕ) (found : Found) → IsTried g v s t r first → TriesFirst g v s t r first found
+tried_tries g v s t r first (Met other) tried = λ apart. tried
+tried_tries g v s t r first Alone tried = tried
+tried_tries g v s t r first Already tried = tt
+tried_tries g v s t r first Left tried = tt
+
+pub all_try : {M : Type 0} (g : GridOf M) (v : View) (s t : Seen) (r : Row) (first : ℕ) (found : Option Found) → IsTried g v s t r first → IfSome found (TriesFirst g v s t r first)
+all_try g v s t r first None tried = tt
+all_try g v s t r first (Some found) tried = tried_tries g v s t r first found tried
+
+pub tries_sooner : {M : Type 0} (g : GridOf M) (v : View) (a s t : Seen) (r : Row) (first : ℕ) (found : Found) → Grows a s → TriesFirst g v s t r first found → TriesFirst g v a t r first found
+tries_sooner g v a s t r first (Met other) before tries = λ apart. tried_more g v v a s t t r first (more_nothing v) before (grows_nothing t) (tries apart)
+tries_sooner g v a s t r first Alone before tried = tried_more g v v a s t t r first (more_nothing v) before (grows_nothing t) tried
+tries_sooner g v a s t r first Already before tries = tt
+tries_sooner g v a s t r first Left before tries = tt

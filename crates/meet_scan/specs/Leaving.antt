@@ -1,5 +1,5 @@
 -- What a search leaves: whom it missed in the directory, and whom it passed by.
-use Rattle.std.specs.Prelude.{Option, Some, None, ◌≡◌, ◌≢◌, ◌⊎◌, ℕ, ◌<◌, ◌≤◌, ◌+◌, ◌*◌, ◌^◌, true, false, List, MatchOption, get_or}
+use Rattle.std.specs.Prelude.{⊤, Option, Some, None, ◌≡◌, ◌≢◌, ◌⊎◌, ℕ, ◌<◌, ◌≤◌, ◌+◌, ◌*◌, ◌^◌, true, false, List, MatchOption, get_or}
 use Rattle.protocol_values.specs.declared.Direction.{Direction}
 use Rattle.protocol_values.specs.declared.Direction.TheVariants.{Always, Never, OnEnd, OnNack, Recv, Send}
 use Rattle.protocol_values.specs.declared.Row.{Row}
@@ -114,6 +114,38 @@ pub record IsHeldUp {M : Type 0} (g : GridOf M) (v : View) (s t : Seen) (r : Row
   pub apart : r.thread ≢ other.thread
   pub named : IsNamed v r own other
   pub stops : CannotPass g s t r other
+
+-- a row of this thread does
+abbrev pub IsHeldUpBy : {M : Type 0} → GridOf M → View → Seen → Seen → Row → ℕ → Type 0
+IsHeldUpBy g v s t r u = (held : IsHeldUp g v s t r) × (held.other.thread ≡ u)
+
+-- WHO IS TRIED FIRST
+
+-- for an offer in this direction, if it has a lane: each row of thread u was missed or passed by, or one was in the way
+abbrev pub IsTriedFor : {M : Type 0} → GridOf M → View → Seen → Seen → Row → Direction → ℕ → Type 0
+IsTriedFor g v s t r d u = (l m : ℕ) → lanes_of d ≡ Some (l, m) → IsDoneWith v t r d l m u ⊎ IsHeldUpBy g v s t r u
+
+-- for offer n of the row, if it has one
+abbrev pub IsTriedAt : {M : Type 0} → GridOf M → View → Seen → Seen → Row → ℕ → ℕ → Type 0
+IsTriedAt g v s t r u n = LackOffer t.words r n ⊎ ((d : Direction) × HaveDirection t.words r n d × IsTriedFor g v s t r d u)
+
+-- Thread u, if it is another, was tried for all offers of the row, by what the pass had seen before and has seen after.
+abbrev pub IsTried : {M : Type 0} → GridOf M → View → Seen → Seen → Row → ℕ → Type 0
+IsTried g v s t r u = u < 64 → r.thread ≢ u → (n : ℕ) → n < 8 → IsTriedAt g v s t r u n
+
+-- who was met is of this thread, and no row was committed alone
+abbrev pub MeetsOnly : ℕ → Found → Type 0
+MeetsOnly u (Met other) = other.thread ≡ u
+MeetsOnly u Alone = ⊥
+MeetsOnly u Already = ⊤
+MeetsOnly u Left = ⊤
+
+-- A search that begins with thread u meets a row of another one, or commits its row alone, only where u was tried.
+abbrev pub TriesFirst : {M : Type 0} → GridOf M → View → Seen → Seen → Row → ℕ → Found → Type 0
+TriesFirst g v s t r u (Met other) = other.thread ≢ u → IsTried g v s t r u
+TriesFirst g v s t r u Alone = IsTried g v s t r u
+TriesFirst g v s t r u Already = ⊤
+TriesFirst g v s t r u Left = ⊤
 
 -- NOBODY IS LEFT: of two rows of two threads whose offers i and j meet, each of which was left for that offer, one was seen committed
 -- or taken.

@@ -8,8 +8,8 @@ ghost use Rattle.cell_table.specs.declared.view.Seen.{Seen};
 ghost use Rattle.meet_directory.specs.Directory.{NoPairMissed, Offered, Published};
 ghost use Rattle.meet_directory.specs.Seats.{Sits};
 ghost use Rattle.meet_directory.specs.declared.view.View.{View};
-ghost use Rattle.meet_scan.specs.Leaving.{ArePublished, AreRead, CannotPass, ComesTo, IsDoneWith, IsHeldUp, IsLeft, IsLeftFor, IsLeftRow, KnowsMore, MeetsAt, MeetsNone, NoPairLeft, NobodyLeft, PassedBy, ScansTo, lanes_of};
-ghost use Rattle.meet_scan.specs.Searches.{Finds, Grows, StandsByNone};
+ghost use Rattle.meet_scan.specs.Leaving.{ArePublished, AreRead, CannotPass, ComesTo, IsDoneWith, IsHeldUp, IsHeldUpBy, IsLeft, IsLeftFor, IsLeftRow, IsTried, KnowsMore, MeetsAt, MeetsNone, MeetsOnly, NoPairLeft, NobodyLeft, PassedBy, ScansTo, TriesFirst, lanes_of};
+ghost use Rattle.meet_scan.specs.Searches.{Finds, FoundAt, Grows, StandsByNone};
 ghost use Rattle.meet_scan.specs.Steps.{OnlyLooks, SearchMade, found_or_left};
 
 use crate::found::Found;
@@ -19,6 +19,7 @@ use meet_directory::{Directory, DirectoryPass, next_thread};
 use protocol_values::{Cell, Direction, Row};
 
 /// The first offer of an opened row that meets one in this direction.
+#[inline(always)]
 fn meeting_offer<M: Resident>(
     cells: &Cells<M>,
     pass: &mut Pass<M>,
@@ -42,6 +43,7 @@ fn meeting_offer<M: Resident>(
 }
 
 /// Tries to meet the row, under the first offer of it that meets one's own. None: it was claimed.
+#[inline(always)]
 fn scan_row<G: StepGate, M: Resident>(
     cells: &Cells<M>,
     pass: &mut Pass<M>,
@@ -59,6 +61,7 @@ fn scan_row<G: StepGate, M: Resident>(
     ensures results { KeepsResults pass.old pass.new }
     ensures made { SearchMade mine.0 (found_or_left result) pass.old.made pass.new.made }
     ensures found { IfSome result (ComesTo pass.new.seen mine.0 (PassedBy pass.new.seen other direction × Has pass.new.seen.opened other)) }
+    ensures only { IfSome result (MeetsOnly other.thread) }
     ensures again { IfNone result (CannotPass cells.now pass.old.seen pass.new.seen mine.0 other) }
 {
     match cells.look(pass, other) {
@@ -81,6 +84,7 @@ fn scan_row<G: StepGate, M: Resident>(
 }
 
 /// Tries to meet the thread's newest row. None: it was claimed.
+#[inline(always)]
 fn scan_thread<G: StepGate, M: Resident>(
     directory: &Directory,
     scan: &mut DirectoryPass,
@@ -105,7 +109,8 @@ fn scan_thread<G: StepGate, M: Resident>(
     ensures more { KnowsMore scan.old.me.0 scan.new.me.0 }
     ensures made { SearchMade mine.0 (found_or_left result) pass.old.made pass.new.made }
     ensures found { IfSome result (ComesTo pass.new.seen mine.0 (IsDoneWith scan.new.me.0 pass.new.seen mine.0 direction lanes.0 lanes.1 other)) }
-    ensures again { IfNone result (IsHeldUp cells.now scan.new.me.0 pass.old.seen pass.new.seen mine.0) }
+    ensures only { IfSome result (MeetsOnly other) }
+    ensures again { IfNone result (IsHeldUpBy cells.now scan.new.me.0 pass.old.seen pass.new.seen mine.0 other) }
 {
     let count = directory.scan_newest(scan, other);
     if count == 0 {
@@ -309,9 +314,132 @@ pub fn scan_offers<G: StepGate, M: Resident>(
     (!is_claimed).then_some(Found::Left)
 }
 
+/// Tries to meet the newest row of this other thread by each offer of the published row. None: nothing came of it.
+#[inline(never)]
+fn scan_wished<G: StepGate, M: Resident>(
+    directory: &Directory,
+    scan: &mut DirectoryPass,
+    cells: &Cells<M>,
+    pass: &mut Pass<M>,
+    gate: &G,
+    row: Row,
+    directions: &[Option<Direction>; 8],
+    first: u8,
+) -> Option<Found>
+    requires here { IsPassOf cells.now pass.old × IsRowOf cells.now row }
+    requires opened { Has pass.old.seen.held row × Has pass.old.seen.opened row }
+    requires read { AreRead pass.old.seen row directions.now }
+    requires sits { Sits directory.now scan.old }
+    requires out { ArePublished scan.old.me.0.marks row directions.now }
+    requires other { (first < 64) × (row.thread ≢ first) }
+    ensures here { IsPassOf cells.now pass.new }
+    ensures grows { Grows pass.old.seen pass.new.seen }
+    ensures results { KeepsResults pass.old pass.new }
+    ensures sits { Sits directory.now scan.new }
+    ensures more { KnowsMore scan.old.me.0 scan.new.me.0 }
+    ensures made { SearchMade row (found_or_left result) pass.old.made pass.new.made }
+    ensures found { IfSome result (FoundAt pass.new.seen row) }
+    ensures only { IfSome result (MeetsOnly first) }
+    ensures tried { IfNone result (IsTried cells.now scan.new.me.0 pass.old.seen pass.new.seen row first) }
+{
+    for n in 0..8 {
+        let Some(direction) = directions[usize::from(n)] else {
+            continue;
+        };
+        let Some(both) = lanes(direction) else {
+            continue;
+        };
+        match scan_thread(
+            directory,
+            scan,
+            cells,
+            pass,
+            gate,
+            (row, n),
+            direction,
+            both,
+            first,
+        ) {
+            Some(Found::Left) => continue,
+            Some(Found::Met(other)) => return Some(Found::Met(other)),
+            Some(Found::Alone) => return Some(Found::Alone),
+            Some(Found::Already) => return Some(Found::Already),
+            None => continue,
+        }
+    }
+    None
+}
+
+/// The same, if there is such a thread, and it is another.
+#[inline(always)]
+fn scan_first<G: StepGate, M: Resident>(
+    directory: &Directory,
+    scan: &mut DirectoryPass,
+    cells: &Cells<M>,
+    pass: &mut Pass<M>,
+    gate: &G,
+    row: Row,
+    directions: &[Option<Direction>; 8],
+    first: u8,
+) -> Option<Found>
+    requires here { IsPassOf cells.now pass.old × IsRowOf cells.now row }
+    requires opened { Has pass.old.seen.held row × Has pass.old.seen.opened row }
+    requires read { AreRead pass.old.seen row directions.now }
+    requires sits { Sits directory.now scan.old }
+    requires out { ArePublished scan.old.me.0.marks row directions.now }
+    ensures here { IsPassOf cells.now pass.new }
+    ensures grows { Grows pass.old.seen pass.new.seen }
+    ensures results { KeepsResults pass.old pass.new }
+    ensures sits { Sits directory.now scan.new }
+    ensures more { KnowsMore scan.old.me.0 scan.new.me.0 }
+    ensures made { SearchMade row (found_or_left result) pass.old.made pass.new.made }
+    ensures found { IfSome result (FoundAt pass.new.seen row) }
+    ensures only { IfSome result (MeetsOnly first) }
+    ensures tried { IfNone result (IsTried cells.now scan.new.me.0 pass.old.seen pass.new.seen row first) }
+{
+    if first >= 64 || first == row.thread {
+        return None;
+    }
+    scan_wished(directory, scan, cells, pass, gate, row, directions, first)
+}
+
+/// As `scan_offers`, but the newest row of thread `first` is tried before all others.
+fn scan_from<G: StepGate, M: Resident>(
+    directory: &Directory,
+    scan: &mut DirectoryPass,
+    cells: &Cells<M>,
+    pass: &mut Pass<M>,
+    gate: &G,
+    row: Row,
+    directions: &[Option<Direction>; 8],
+    first: u8,
+    alone: bool,
+) -> Option<Found>
+    requires here { IsPassOf cells.now pass.old × IsRowOf cells.now row }
+    requires opened { Has pass.old.seen.held row × Has pass.old.seen.opened row }
+    requires read { AreRead pass.old.seen row directions.now }
+    requires sits { Sits directory.now scan.old × (512 ≤ directory.now.lanes) }
+    requires out { ArePublished scan.old.me.0.marks row directions.now }
+    ensures here { IsPassOf cells.now pass.new }
+    ensures grows { Grows pass.old.seen pass.new.seen }
+    ensures results { KeepsResults pass.old pass.new }
+    ensures sits { Sits directory.now scan.new }
+    ensures more { KnowsMore scan.old.me.0 scan.new.me.0 }
+    ensures made { SearchMade row (found_or_left result) pass.old.made pass.new.made }
+    ensures found { IfSome result (ComesTo pass.new.seen row (IsLeftRow scan.new.me.0 pass.new.seen row × (IsTrue alone → StandsByNone pass.old.seen row directions.now))) }
+    ensures first { IfSome result (TriesFirst cells.now scan.new.me.0 pass.old.seen pass.new.seen row first) }
+    ensures again { IfNone result (IsHeldUp cells.now scan.new.me.0 pass.old.seen pass.new.seen row) }
+{
+    match scan_first(directory, scan, cells, pass, gate, row, directions, first) {
+        Some(found) => Some(found),
+        None => scan_offers(directory, scan, cells, pass, gate, row, directions, alone),
+    }
+}
+
 /// Searches for a row that this one can meet, by the directory alone, and waits for nobody: it publishes the row, and
-/// looks once at each row that it may meet. None: one of them was claimed, and the search is to be made again. Its
-/// caller has a scheduler of his own.
+/// looks once at each row that it may meet, at that of thread `first` before all others; where the table has no such thread,
+/// or it is the row's own, none goes before. None: one of them was claimed, and the search is to be made again. Its caller
+/// has a scheduler of his own.
 ///
 /// An offer that needs no partner is granted only if so asked: else it is left to a grant of the caller's own.
 pub fn search_once<G: StepGate, M: Resident>(
@@ -321,6 +449,7 @@ pub fn search_once<G: StepGate, M: Resident>(
     pass: &mut Pass<M>,
     gate: &G,
     row: Row,
+    first: u8,
     alone: bool,
 ) -> Option<Found>
     requires here { IsPassOf cells.now pass.old × IsRowOf cells.now row }
@@ -334,12 +463,23 @@ pub fn search_once<G: StepGate, M: Resident>(
     ensures made { SearchMade row (found_or_left result) pass.old.made pass.new.made }
     ensures found { IfSome result (ScansTo scan.new.me.0 pass.old.seen pass.new.seen row) }
     ensures alone { IsTrue alone → IfSome result (Finds pass.old.seen pass.new.seen row) }
+    ensures first { IfSome result (TriesFirst cells.now scan.new.me.0 pass.old.seen pass.new.seen row first) }
     ensures again { IfNone result (IsHeldUp cells.now scan.new.me.0 pass.old.seen pass.new.seen row) }
 {
     let directions = own_directions(cells, pass, row);
     cells.has_few_threads();
     publish(directory, scan, row, &directions);
-    match scan_offers(directory, scan, cells, pass, gate, row, &directions, alone)? {
+    match scan_from(
+        directory,
+        scan,
+        cells,
+        pass,
+        gate,
+        row,
+        &directions,
+        first,
+        alone,
+    )? {
         Found::Left => Some(leave(cells, pass, row)),
         found => Some(found),
     }

@@ -180,13 +180,17 @@ TellsMet after (Ok (Some Left)) = ⊤
 TellsMet after (Ok None) = ⊤
 TellsMet after (Err e) = ⊤
 
-abbrev pub Searched : HandOf → HandOf → Row → Bool → PlainRow → ℕ → Type 0
-Searched h k r alone met answer = (e : Result (Option Found) Refusal) × Searches h k r alone e × (answer ≡ number_of found_number e) × TellsMet met e
+-- a thread that no table has
+abbrev pub NO_THREAD : ℕ
+NO_THREAD = 255
 
-abbrev pub Began : HandOf → HandOf → Row → List PlainOffer → Bool → PlainRow → ℕ → Type 0
-Began h k r plain alone met answer =
+abbrev pub Searched : HandOf → HandOf → Row → ℕ → Bool → PlainRow → ℕ → Type 0
+Searched h k r first alone met answer = (e : Result (Option Found) Refusal) × Searches h k r first alone e × (answer ≡ number_of found_number e) × TellsMet met e
+
+abbrev pub Began : HandOf → HandOf → Row → List PlainOffer → ℕ → Bool → PlainRow → ℕ → Type 0
+Began h k r plain first alone met answer =
     ((offers : List Offer) × AreListed plain offers × (length offers ≡ length plain)
-    × (e : Result (Option Found) Refusal) × Begins h k r offers alone e × (answer ≡ number_of found_number e) × TellsMet met e)
+    × (e : Result (Option Found) Refusal) × Begins h k r offers first alone e × (answer ≡ number_of found_number e) × TellsMet met e)
     ⊎ (OutOfRange h k answer × ((8 < length plain) ⊎ NotAll plain))
 
 -- What closing does: the pass keeps a lawful ledger, with all that it had seen, or others are left, and it stays as it is.
@@ -203,9 +207,9 @@ Closed (Some (Ledger l)) after answer = (after ≡ Some (Ledger l)) × (answer �
 Closed (Some (Hand h)) after answer = Ends h after answer
 
 -- the handles keep the hands of one new table, in their order
-abbrev pub AreDealt : ℕ → ℕ → ℕ → List Handle → Type 0
-AreDealt threads rows later handles =
-    (n : ℕ) (place : Handle) → slice_get handles n ≡ Some place → (h : HandOf) × (place.kept ≡ Some (Hand h)) × IsDealt threads rows later (length handles) n h
+abbrev pub AreDealt : ℕ → ℕ → ℕ → ℕ → List Handle → Type 0
+AreDealt threads rows offers later handles =
+    (n : ℕ) (place : Handle) → slice_get handles n ≡ Some place → (h : HandOf) × (place.kept ≡ Some (Hand h)) × IsDealt threads rows offers later (length handles) n h
 
 -- as many of the commits as there is room for
 abbrev pub AreWritten : List Commit → List PlainCommit → Type 0

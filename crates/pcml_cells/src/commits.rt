@@ -3,9 +3,9 @@
 ghost use Rattle.std.specs.Prelude.{◌≡◌, ◌≢◌, min};
 ghost use Rattle.plain_values.specs.Plain.{row_in};
 ghost use Rattle.cell_hand.specs.Calls.{Attempts, Grants, Takes, Wakes};
-ghost use Rattle.pcml_cells.specs.Answers.{Began, Does, Numbered, Searched, Told, attempt_number, found_number, grant_number, some_number};
+ghost use Rattle.pcml_cells.specs.Answers.{Began, Does, NO_THREAD as no_thread, Numbered, Searched, Told, attempt_number, found_number, grant_number, some_number};
 
-use crate::numbers::{CLOSED, EMPTY, RANGE, attempted, found, granted, small, taken};
+use crate::numbers::{CLOSED, EMPTY, NO_THREAD, RANGE, attempted, found, granted, small, taken};
 use crate::telling::tell_met;
 use cell_hand::Kept;
 use hand_kept::Handle;
@@ -105,23 +105,40 @@ pub extern "C" fn pcml_search(
     alone: bool,
     met: &mut PlainRow,
 ) -> u32
-    ensures told { Told pass.old.kept pass.new.kept result (λ h k. Searched h k (row_in row) alone met.new result) }
+    ensures told { Told pass.old.kept pass.new.kept result (λ h k. Searched h k (row_in row) no_thread alone met.new result) }
+    ensures untouched { result ≢ 0 → met.new ≡ met.old }
+{
+    pcml_search_from(alloc, pass, row, NO_THREAD, alone, met)
+}
+
+/// The same, but the newest row of thread `first` is tried before all others. One's own thread, or one that the table has not,
+/// goes before none.
+#[unsafe(no_mangle)]
+pub extern "C" fn pcml_search_from(
+    alloc: Global,
+    pass: &mut Handle,
+    row: PlainRow,
+    first: u32,
+    alone: bool,
+    met: &mut PlainRow,
+) -> u32
+    ensures told { Told pass.old.kept pass.new.kept result (λ h k. Searched h k (row_in row) (min first 255) alone met.new result) }
     ensures untouched { result ≢ 0 → met.new ≡ met.old }
 {
     let Some(mut kept) = pass.take(alloc) else {
         return EMPTY;
     };
-    let answer = search(&mut kept, row, alone, met);
+    let answer = search(&mut kept, row, first, alone, met);
     pass.keep(kept);
     answer
 }
 
-fn search(kept: &mut Kept, row: PlainRow, alone: bool, met: &mut PlainRow) -> u32
-    ensures told { Does kept.old kept.new result (λ h k. Searched h k (row_in row) alone met.new result) }
+fn search(kept: &mut Kept, row: PlainRow, first: u32, alone: bool, met: &mut PlainRow) -> u32
+    ensures told { Does kept.old kept.new result (λ h k. Searched h k (row_in row) (min first 255) alone met.new result) }
     ensures untouched { result ≢ 0 → met.new ≡ met.old }
 {
     match kept {
-        Kept::Hand(hand) => tell_met(hand.search(row.read(), alone), met),
+        Kept::Hand(hand) => tell_met(hand.search(row.read(), small(first), alone), met),
         Kept::Ledger(_) => CLOSED,
         Kept::Nothing => EMPTY,
     }
@@ -162,13 +179,30 @@ pub extern "C" fn pcml_begin(
     alone: bool,
     met: &mut PlainRow,
 ) -> u32
-    ensures told { Told pass.old.kept pass.new.kept result (λ h k. Began h k (row_in row) offers.now alone met.new result) }
+    ensures told { Told pass.old.kept pass.new.kept result (λ h k. Began h k (row_in row) offers.now no_thread alone met.new result) }
+    ensures untouched { result ≢ 0 → met.new ≡ met.old }
+{
+    pcml_begin_from(alloc, pass, row, offers, NO_THREAD, alone, met)
+}
+
+/// The same, but the newest row of thread `first` is tried before all others.
+#[unsafe(no_mangle)]
+pub extern "C" fn pcml_begin_from(
+    alloc: Global,
+    pass: &mut Handle,
+    row: PlainRow,
+    offers: &[PlainOffer],
+    first: u32,
+    alone: bool,
+    met: &mut PlainRow,
+) -> u32
+    ensures told { Told pass.old.kept pass.new.kept result (λ h k. Began h k (row_in row) offers.now (min first 255) alone met.new result) }
     ensures untouched { result ≢ 0 → met.new ≡ met.old }
 {
     let Some(mut kept) = pass.take(alloc) else {
         return EMPTY;
     };
-    let answer = begin(&mut kept, row, offers, alone, met);
+    let answer = begin(&mut kept, row, offers, first, alone, met);
     pass.keep(kept);
     answer
 }
@@ -177,15 +211,19 @@ fn begin(
     kept: &mut Kept,
     row: PlainRow,
     offers: &[PlainOffer],
+    first: u32,
     alone: bool,
     met: &mut PlainRow,
 ) -> u32
-    ensures told { Does kept.old kept.new result (λ h k. Began h k (row_in row) offers.now alone met.new result) }
+    ensures told { Does kept.old kept.new result (λ h k. Began h k (row_in row) offers.now (min first 255) alone met.new result) }
     ensures untouched { result ≢ 0 → met.new ≡ met.old }
 {
     match kept {
         Kept::Hand(hand) => match read_offers(offers) {
-            Some(all) => tell_met(hand.begin(row.read(), &all[..offers.len()], alone), met),
+            Some(all) => tell_met(
+                hand.begin(row.read(), &all[..offers.len()], small(first), alone),
+                met,
+            ),
             None => RANGE,
         },
         Kept::Ledger(_) => CLOSED,

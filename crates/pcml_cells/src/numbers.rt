@@ -16,6 +16,9 @@ pub(crate) const CLOSED: u32 = 25;
 
 pub(crate) const RANGE: u32 = 18;
 
+/// A thread that no table has.
+pub(crate) const NO_THREAD: u32 = 255;
+
 /// An offer's number, a thread's and the like: those above 255 are as 255, which no row and no table has either.
 pub(crate) fn small(number: u32) -> u8
     ensures { result ≡ min number 255 }

@@ -23,8 +23,24 @@ pub extern "C" fn pcml_cells_new(
     later: u64,
     passes: &mut [Handle],
 ) -> u32
-    ensures dealt { result ≡ 0 → AreDealt threads rows later passes.new }
-    ensures refused { result ≢ 0 → (passes.new ≡ passes.old) × ((result ≡ 17) ⊎ ((result ≡ 18) × (¬ CanDeal threads rows (length passes.old)))) }
+    ensures dealt { result ≡ 0 → AreDealt threads rows 8 later passes.new }
+    ensures refused { result ≢ 0 → (passes.new ≡ passes.old) × ((result ≡ 17) ⊎ ((result ≡ 18) × (¬ CanDeal threads rows 8 (length passes.old)))) }
+{
+    pcml_cells_new_short(alloc, threads, rows, 8, later, passes)
+}
+
+/// The same of rows that have room for 1 to 8 offers: a row takes 2 words, and 4 for each.
+#[unsafe(no_mangle)]
+pub extern "C" fn pcml_cells_new_short(
+    alloc: Global,
+    threads: u32,
+    rows: u32,
+    offers: u32,
+    later: u64,
+    passes: &mut [Handle],
+) -> u32
+    ensures dealt { result ≡ 0 → AreDealt threads rows offers later passes.new }
+    ensures refused { result ≢ 0 → (passes.new ≡ passes.old) × ((result ≡ 17) ⊎ ((result ≡ 18) × (¬ CanDeal threads rows offers (length passes.old)))) }
 {
     if threads > 64 {
         return RANGE;
@@ -32,11 +48,21 @@ pub extern "C" fn pcml_cells_new(
     if rows > 1024 {
         return RANGE;
     }
+    if offers > 8 {
+        return RANGE;
+    }
     if passes.len() > 16 {
         return RANGE;
     }
     let count = passes.len() as u8;
-    let hands = match Hand::deal(alloc, threads as u8, rows as u16, later, count) {
+    let hands = match Hand::deal(
+        alloc,
+        threads as u8,
+        rows as u16,
+        offers as u8,
+        later,
+        count,
+    ) {
         Ok(hands) => hands,
         Err(refusal) => return refused(refusal),
     };

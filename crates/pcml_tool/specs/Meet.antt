@@ -33,9 +33,9 @@ send_of value = record { base = Send 0 (One (Num value)); scopes = 0 }
 abbrev pub receive_offer : Offer
 receive_offer = record { base = Recv 0; scopes = 0 }
 
--- the pass holds this row and has seen nothing
+-- the pass holds this row, which has room for an offer, and has seen nothing
 abbrev pub IsReady : Grid → PassView → Row → Type 0
-IsReady cells pass row = IsPassOf cells pass × IsRowOf cells row × (pass.seen ≡ seen_nothing (row ∷ []))
+IsReady cells pass row = IsPassOf cells pass × IsRowOf cells row × (pass.seen ≡ seen_nothing (row ∷ [])) × (1 ≤ cells.offers)
 
 -- the pass has opened its row with this one offer
 abbrev pub HasTakenPart : Grid → PassView → Row → Offer → Type 0

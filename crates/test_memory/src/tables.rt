@@ -133,7 +133,7 @@ fn lanes(alloc: Global) -> Result<(Meet, MeetPass), AllocError>
     Ok((meet, lanes))
 }
 
-/// Drafts these offers for a held row, and opens it.
+/// Drafts these offers for a held row, where rows have room for them, and opens it.
 fn enter(cells: &Cells<Bare>, pass: &mut Pass<Bare>, row: Row, offers: &[Offer])
     requires here { IsPassOf cells.now pass.old × IsRowOf cells.now row }
     requires fresh { Has pass.old.seen.held row × (¬ Has pass.old.seen.opened row) }
@@ -144,7 +144,9 @@ fn enter(cells: &Cells<Bare>, pass: &mut Pass<Bare>, row: Row, offers: &[Offer])
     ensures opened { pass.new.seen.opened ≡ row ∷ pass.old.seen.opened }
     ensures ended { pass.new.seen.ended ≡ pass.old.seen.ended }
 {
-    cells.draft(pass, row, offers);
+    if cells.has_room(offers.len()) {
+        cells.draft(pass, row, offers);
+    }
     cells.open(pass, row);
 }
 

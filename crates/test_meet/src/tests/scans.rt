@@ -17,6 +17,9 @@ use std::test::Fail;
 /// How many lanes the directory has: two for each channel that an offer can name.
 const LANES: u32 = 512;
 
+/// A search begins with no thread.
+const NOBODY: u8 = 64;
+
 /// Opens the first row of the thread with these offers, and searches once.
 fn search(
     directory: &Directory,
@@ -35,7 +38,16 @@ fn search(
     ensures sits { Sits directory.now scan.new }
 {
     enter(cells, pass, row(thread), offers);
-    search_once(directory, scan, cells, pass, &NoGate, row(thread), true)
+    search_once(
+        directory,
+        scan,
+        cells,
+        pass,
+        &NoGate,
+        row(thread),
+        NOBODY,
+        true,
+    )
 }
 
 // The row that was found says so when it is searched again.
@@ -57,6 +69,7 @@ fn the_second_of_two_rows_finds_the_first(rt: HostRuntime) -> Result<(), Fail> {
         &mut first,
         &NoGate,
         row(0),
+        NOBODY,
         true,
     );
     assert!(rt; again == Some(Found::Already));

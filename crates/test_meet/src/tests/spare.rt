@@ -29,7 +29,7 @@ fn opens(cells: &Cells<Bare>, pass: &mut Pass<Bare>, row: Row, offers: &[Offer])
     ensures here { IsPassOf cells.now pass.new }
     ensures opened { IsTrue result → IsRowOf cells.now row × Has pass.new.seen.held row × Has pass.new.seen.opened row }
 {
-    if !pass.holds(row) || !cells.has(row) {
+    if !pass.holds(row) || !cells.has(row) || !cells.has_room(offers.len()) {
         return false;
     }
     let Course::Running(_) = cells.course(pass, row.thread) else {

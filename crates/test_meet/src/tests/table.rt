@@ -179,7 +179,7 @@ pub(super) fn last(meet: &Meet, all: &mut Vec<MeetPass>) -> MeetPass
     lanes
 }
 
-/// Drafts these offers for a held row, and opens it.
+/// Drafts these offers for a held row, where rows have room for them, and opens it.
 pub(super) fn enter(cells: &Cells<Bare>, pass: &mut Pass<Bare>, row: Row, offers: &[Offer])
     requires here { IsPassOf cells.now pass.old × IsRowOf cells.now row }
     requires fresh { Has pass.old.seen.held row × (¬ Has pass.old.seen.opened row) }
@@ -190,6 +190,8 @@ pub(super) fn enter(cells: &Cells<Bare>, pass: &mut Pass<Bare>, row: Row, offers
     ensures opened { pass.new.seen.opened ≡ row ∷ pass.old.seen.opened }
     ensures ended { pass.new.seen.ended ≡ pass.old.seen.ended }
 {
-    cells.draft(pass, row, offers);
+    if cells.has_room(offers.len()) {
+        cells.draft(pass, row, offers);
+    }
     cells.open(pass, row);
 }

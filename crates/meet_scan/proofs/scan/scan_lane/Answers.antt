@@ -61,7 +61,7 @@ loop-other-preserved g c =
       omega (arith, next.1),
       (λ free. absurd (true≢false free)),
       (λ claimed. held_more c.args.cells.now c.scan_thread.new.scan.me.0 c.scan_thread.new.scan.me.0 c.args.pass.now.seen c.loop-other.pass.seen c.scan_thread.new.pass.seen c.scan_thread.new.pass.seen r
-          (more_nothing c.scan_thread.new.scan.me.0) i.0.grows (grows_nothing c.scan_thread.new.pass.seen) (from_again c.scan_thread.result none call.again)),
+          (more_nothing c.scan_thread.new.scan.me.0) i.0.grows (grows_nothing c.scan_thread.new.pass.seen) (from_again c.scan_thread.result none call.again).0),
     )
 
 pub returns-clause-found : goal.returns-clause-found

@@ -61,4 +61,4 @@ returns-clause-results g c number pass e =
 pub invariant_of-result : goal.invariant_of-result
 invariant_of-result g c =
     let words = c.in_ok-spare.ensures.sized in
-    (words ∙ (search rules), search rules, search rules, search rules, search rules)
+    (words ∙ (search rules), search rules, search rules, search rules)

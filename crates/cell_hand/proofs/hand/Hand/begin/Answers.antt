@@ -6,4 +6,4 @@ open_fresh-requires c = record { fresh = can_open c.reach.new.self c.write.new.s
 
 pub returns : goal.returns
 returns c =
-    (c.reach.new.self, c.in_ok-reach.ensures, c.write.new.self, c.write.ensures, c.open_fresh.new.self, c.open_fresh.ensures.made, c.search_opened.ensures)
+    (c.in_ok-test_room.ensures.room, c.reach.new.self, c.in_ok-reach.ensures, c.write.new.self, c.write.ensures, c.open_fresh.new.self, c.open_fresh.ensures.made, c.search_opened.ensures)

@@ -26,7 +26,7 @@ offers_fit-requires-clause-names g c =
 
 -- and so have the table's rows
 pub draft-requires-clause-room : goal.draft-requires-clause-room
-draft-requires-clause-room g c = λ housed.
+draft-requires-clause-room g c =
     let m = c.args.suspended in
     let phase = m.machine.value.phase in
     let table = c.requires.here.2 in

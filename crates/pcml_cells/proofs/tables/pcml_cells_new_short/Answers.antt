@@ -5,7 +5,7 @@ use Rattle.cell_hand.specs.Hands.{HandOf}
 use Rattle.cell_hand.specs.declared.kept.Kept.{Kept}
 use Rattle.cell_hand.specs.declared.kept.Kept.TheVariants.{Hand}
 use Rattle.pcml_cells.proofs.Filling.{kept_hand}
-use Rattle.pcml_cells.proofs.tables.pcml_cells_new.Goals as goal
+use Rattle.pcml_cells.proofs.tables.pcml_cells_new_short.Goals as goal
 
 pub returns-clause-dealt : goal.returns-clause-dealt
 returns-clause-dealt c z n place e =
@@ -18,7 +18,7 @@ returns-clause-dealt c z n place e =
     (λ (found : (h : HandOf) × (n < length hands) × (slice_get hands n ≡ Some h) × _). let h = found.0 in (
       h,
       c.keep_all.ensures.kept n place e ∙ kept_hand v Hand c.in-Ok-boxes_of.boxes.items hands n h c.in-Ok-boxes_of.ensures found.2,
-      subst (λ (m : ℕ). IsDealt c.args.threads c.args.rows c.args.later m n h) (sym c.keep_all.ensures.count) (c.in-Ok.ensures.dealt n h found.2),
+      subst (λ (m : ℕ). IsDealt c.args.threads c.args.rows c.args.offers c.args.later m n h) (sym c.keep_all.ensures.count) (c.in-Ok.ensures.dealt n h found.2),
     ))
     (λ past. let high = past.0 in absurd (omega (arith, low, size, high)))
     (slice_get_cases hands n).1

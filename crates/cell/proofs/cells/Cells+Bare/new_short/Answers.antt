@@ -5,7 +5,7 @@ use Rattle.protocol.proofs.LedgerLemmas.{start_threads}
 use Rattle.cell.specs.Calls.{IsPassOf, PassView}
 use Rattle.cell_table.specs.Rule.{dealt_from, seen_nothing}
 use Rattle.protocol.proofs.Going.{start_opens}
-use Rattle.cell.proofs.cells.Cells+Bare.new_later.Goals as goal
+use Rattle.cell.proofs.cells.Cells+Bare.new_short.Goals as goal
 
 pub over-requires-clause-opening : goal.over-requires-clause-opening
 over-requires-clause-opening c =
