@@ -15,7 +15,7 @@
  * A TABLE has rows: row (t, g) is the g-th sync of thread t. A pass holds rows: at first pass p holds row 0 of each
  * thread t with t % passes == p. Whoever takes a committed row (pcml_take) holds the thread's next one, whoever held the
  * first. Different passes of one table may be used at once, by as many threads of the system. No call waits, and none
- * but pcml_cells_new and pcml_commits takes memory.
+ * but those that begin a table and pcml_commits takes memory.
  *
  * A ROW is drafted (its offers are written), opened (they stand, and it waits), committed (with a row of another thread,
  * or alone), and taken. A pair is committed at once, with one stamp: one offers to send, and one to receive, on one
@@ -83,6 +83,10 @@ enum pcml_found { PCML_FOUND_MET = 0, PCML_FOUND_ALONE = 1, PCML_FOUND_ALREADY =
 /* TABLES. 1 to 64 threads, 1 to 1024 rows each, 1 to 16 passes. Thread t waits to be started (pcml_start) where bit t of
  * `later` is set. Where it is refused, no pass changes; else what the passes kept before goes. */
 uint32_t pcml_cells_new(uint32_t threads, uint32_t rows, uint64_t later, pcml_pass *passes, size_t count);
+/* The same of rows that have room for `offers` offers, 1 to 8, where those of pcml_cells_new have room for 8: a row takes
+ * 16 bytes, and 32 for each. So the table begins and ends the faster. */
+uint32_t pcml_cells_new_short(uint32_t threads, uint32_t rows, uint32_t offers, uint64_t later, pcml_pass *passes,
+                              size_t count);
 /* The pass goes, and is empty. The last one takes the table with it. */
 void pcml_pass_free(pcml_pass *pass);
 /* Ends the table by its last pass, which keeps the ledger from then on. It needs no memory. */
@@ -93,7 +97,8 @@ uint32_t pcml_commits(pcml_pass *pass, pcml_commit *commits, size_t room, size_t
 
 /* ROWS. pcml_holds answers true too for the row behind the last one of a thread, where the pass took that. */
 bool pcml_holds(pcml_pass *pass, pcml_row row);
-/* At most 8 offers of a held row that is not opened, in place of those that were drafted before. */
+/* The offers of a held row that is not opened, in place of those that were drafted before. PCML_RANGE where there are more
+ * than a row of the table has room for. */
 uint32_t pcml_draft(pcml_pass *pass, pcml_row row, const pcml_offer *offers, size_t count);
 /* Binds nack 0 to 63 of the row's thread to the row and its scope 0 to 3. 0 bound, 1 it was bound before. */
 uint32_t pcml_bind(pcml_pass *pass, uint32_t nack, pcml_row row, uint32_t scope);
@@ -114,12 +119,19 @@ uint32_t pcml_grant(pcml_pass *pass, pcml_row row, uint32_t offer);
 /* Looks for a row that this one can meet, and where `alone` is true for an offer that commits it alone; else such an offer
  * is left to pcml_grant. Of two rows whose offers meet, not both are left. `met` may not be null. */
 uint32_t pcml_search(pcml_pass *pass, pcml_row row, bool alone, pcml_row *met);      /* enum pcml_found */
+/* The same, but the newest row of thread `first` is tried before all others, by each offer of this row. So another one is
+ * met only where that one was committed, does not fit, or was claimed for a moment. PCML_NO_THREAD, a thread that the table
+ * has not, and the row's own are no wish. */
+#define PCML_NO_THREAD UINT32_MAX
+uint32_t pcml_search_from(pcml_pass *pass, pcml_row row, uint32_t first, bool alone, pcml_row *met); /* enum pcml_found */
 /* Tries pcml_grant with each offer of the row: for those who wait for a nack or an end that has come. */
 uint32_t pcml_wake(pcml_pass *pass, pcml_row row);                                   /* enum pcml_found */
 uint32_t pcml_take(pcml_pass *pass, pcml_row row);                                   /* 0 taken, 1 not committed, or taken before */
 /* Takes the row before, where the pass does not hold this one yet, drafts, opens and searches. */
 uint32_t pcml_begin(pcml_pass *pass, pcml_row row, const pcml_offer *offers, size_t count, bool alone,
                     pcml_row *met);                                                  /* enum pcml_found */
+uint32_t pcml_begin_from(pcml_pass *pass, pcml_row row, const pcml_offer *offers, size_t count, uint32_t first, bool alone,
+                         pcml_row *met);                                             /* enum pcml_found */
 
 /* LIVES. Starts a thread of the table's mask `later` from a held row of another thread that is not opened. */
 uint32_t pcml_start(pcml_pass *pass, pcml_row row, uint32_t thread);                 /* 0 started, 1 it had started before */

@@ -55,7 +55,7 @@ static void next_table(void) {
     for (uint32_t t = 1; t < threads; t++) pcml_pass_free(&passes[t]);
     if (pcml_close(&passes[0]) || pcml_commits(&passes[0], none, 0, &count)) abort(); /* here a journal would be read */
     commits += count;
-    if (pcml_cells_new(threads, rows, 0, passes, threads)) abort();
+    if (pcml_cells_new_short(threads, rows, 1, 0, passes, threads)) abort();
     tables++, gathered = 0, turning = false;
     double pause = seconds() - began;
     if (pause > longest) longest = pause;
@@ -128,7 +128,7 @@ static void *play(void *number) {
 
 int main(int count, char **words) {
     threads = 2 * (count > 1 ? (uint32_t)atoi(words[1]) : 2), rounds = count > 2 ? atoi(words[2]) : 20000, rows = count > 3 ? (uint32_t)atoi(words[3]) : 1024;
-    if (threads < 2 || threads > MOST || pcml_cells_new(threads, rows, 0, passes, threads)) return 2;
+    if (threads < 2 || threads > MOST || pcml_cells_new_short(threads, rows, 1, 0, passes, threads)) return 2;
     at_work = threads;
     pthread_t all[MOST];
     double start = seconds();

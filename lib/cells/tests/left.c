@@ -33,11 +33,13 @@ static void *play(void *number) {
         pcml_row mine = {t, sync}, other;
         if (sync == 0) {
             pthread_barrier_wait(&gate);
-            if (t == 0 && pcml_cells_new(threads, rows, 0, passes, threads)) abort();
+            if (t == 0 && pcml_cells_new_short(threads, rows, 2, 0, passes, threads)) abort();
         }
         pthread_barrier_wait(&gate);
-        uint32_t came = pcml_begin(&passes[t], mine, both, 2, true, &other);
-        for (; came == PCML_FOUND_AGAIN; came = pcml_search(&passes[t], mine, true, &other)) atomic_fetch_add(&searched_again, 1);
+        /* in turn all begin with nobody, or with one thread */
+        uint32_t first = r % 2 ? PCML_NO_THREAD : (uint32_t)(r / 2) % threads;
+        uint32_t came = pcml_begin_from(&passes[t], mine, both, 2, first, true, &other);
+        for (; came == PCML_FOUND_AGAIN; came = pcml_search_from(&passes[t], mine, first, true, &other)) atomic_fetch_add(&searched_again, 1);
         if (came > PCML_FOUND_AGAIN) abort();
         found[t] = came;
         pthread_barrier_wait(&gate);

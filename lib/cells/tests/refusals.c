@@ -42,6 +42,8 @@ static void ranges(pcml_pass *p) {
     WANT(pcml_wake(p, a), PCML_EMPTY);
     WANT(pcml_take(p, a), PCML_EMPTY);
     WANT(pcml_begin(p, a, &recv7, 1, true, &r), PCML_EMPTY);
+    WANT(pcml_search_from(p, a, 1, true, &r), PCML_EMPTY);
+    WANT(pcml_begin_from(p, a, &recv7, 1, 1, true, &r), PCML_EMPTY);
     WANT(pcml_start(p, a, 1), PCML_EMPTY);
     WANT(pcml_finish(p, a), PCML_EMPTY);
     WANT(pcml_close(p), PCML_EMPTY);
@@ -56,6 +58,12 @@ static void ranges(pcml_pass *p) {
     WANT(pcml_cells_new(2, 65537, 0, p, 2), PCML_RANGE);
     WANT(pcml_cells_new(2, 4, 0, p, 0), PCML_RANGE);
     WANT(pcml_cells_new(2, 4, 0, p, 17), PCML_RANGE);
+    WANT(pcml_cells_new_short(2, 4, 0, 0, p, 2), PCML_RANGE);
+    WANT(pcml_cells_new_short(2, 4, 9, 0, p, 2), PCML_RANGE);
+    WANT(pcml_cells_new_short(2, 4, 257, 0, p, 2), PCML_RANGE);
+    WANT(pcml_cells_new_short(65, 4, 1, 0, p, 2), PCML_RANGE);
+    WANT(pcml_cells_new_short(2, 1025, 1, 0, p, 2), PCML_RANGE);
+    WANT(pcml_cells_new_short(2, 4, 1, 0, p, 17), PCML_RANGE);
     WANT(p[0].at == 0, 1);
 }
 
@@ -200,6 +208,49 @@ static void ends(pcml_pass *p) {
     WANT(pcml_close(p), PCML_EMPTY);
 }
 
+/* A draft of more offers than a row has room for changes nothing. */
+static void short_rows(pcml_pass *p) {
+    pcml_row a = {0, 0}, far = {9, 0}, r = {77, 78};
+    pcml_offer three[3] = {recv7, {PCML_SEND, 8, 0, {3, {{PCML_NUMBER, 1}, {PCML_NUMBER, 2}, {PCML_NUMBER, 3}}}}, recv7}, o;
+    WANT(pcml_draft(p, a, three, 3), PCML_RANGE);
+    WANT(pcml_draft(p, far, three, 3), PCML_RANGE);
+    WANT(pcml_begin(p, a, three, 3, true, &r), PCML_RANGE);
+    WANT(pcml_begin_from(p, a, three, 3, 1, true, &r), PCML_RANGE);
+    WANT(pcml_look(p, a), PCML_CELL_FRESH);
+    WANT(pcml_begin(p, a, three, 2, true, &r), PCML_FOUND_LEFT);
+    WANT(pcml_begin(p, (pcml_row){0, 1}, three, 3, true, &r), PCML_RANGE);
+    WANT(pcml_offer_of(p, a, 1, &o), 0);
+    WANT(memcmp(&o, &three[1], sizeof o), 0);
+    WANT(pcml_offer_of(p, a, 2, &o), 1);
+    WANT(pcml_grant(p, a, 2), PCML_NOT_ENABLED);
+    WANT(pcml_attempt(p, a, 2, (pcml_row){1, 0}, 7), PCML_UNFIT);
+    WANT(r.thread, 77);
+}
+
+/* Threads 0 to 2 wait; a search begins with one of them, or with one that is no wish. */
+static void first(pcml_pass *p) {
+    pcml_row r = {77, 78};
+    pcml_offer send[2] = {{PCML_SEND, 9, 0, {0}}, {PCML_SEND, 7, 0, {0}}};
+    WANT(pcml_begin(p, (pcml_row){1, 0}, &recv7, 1, true, &r), PCML_FOUND_LEFT);
+    WANT(pcml_begin(p, (pcml_row){2, 0}, &recv7, 1, true, &r), PCML_FOUND_LEFT);
+    WANT(pcml_begin_from(p, (pcml_row){4, 0}, send, 2, 2, true, &r), PCML_FOUND_MET);
+    WANT(r.thread, 2);
+    WANT(pcml_begin_from(p, (pcml_row){3, 0}, send, 2, 2, true, &r), PCML_FOUND_MET); /* thread 2 is gone */
+    WANT(r.thread, 0);
+    WANT(pcml_begin_from(p, (pcml_row){2, 1}, &recv7, 1, PCML_NO_THREAD, true, &r), PCML_FOUND_LEFT);
+    WANT(pcml_begin_from(p, (pcml_row){0, 1}, &recv7, 1, 5, true, &r), PCML_FOUND_LEFT); /* the table has no thread 5 */
+    WANT(pcml_begin_from(p, (pcml_row){4, 1}, send, 1, 2, true, &r), PCML_FOUND_LEFT); /* it does not fit */
+    WANT(pcml_take(p, (pcml_row){3, 0}), 0);
+    WANT(pcml_draft(p, (pcml_row){3, 1}, send, 2), PCML_OK);
+    WANT(pcml_search_from(p, (pcml_row){3, 1}, 2, true, &r), PCML_FRESH);
+    WANT(pcml_open(p, (pcml_row){3, 1}), PCML_OK);
+    WANT(pcml_search_from(p, (pcml_row){3, 1}, 2, true, &r), PCML_FOUND_MET);
+    WANT(r.thread, 2); WANT(r.sync, 1);
+    WANT(pcml_search_from(p, (pcml_row){3, 1}, 1, true, &r), PCML_FOUND_ALREADY);
+    WANT(pcml_search_from(p, (pcml_row){0, 1}, 258, true, &r), PCML_FOUND_LEFT); /* no thread 2 either */
+    WANT(pcml_close(p), PCML_OK);
+}
+
 int main(void) {
     pcml_pass p[2] = {PCML_PASS_INIT, PCML_PASS_INIT};
     ranges(p);
@@ -208,6 +259,12 @@ int main(void) {
     if (pcml_cells_new(3, 4, 4, p, 2)) return 2; /* thread 2 waits to be started; the table before goes */
     meeting(p);
     ends(p);
+    if (pcml_cells_new_short(5, 2, 2, 0, p, 1)) return 2;
+    short_rows(p);
+    if (pcml_cells_new_short(5, 2, 2, 0, p, 1)) return 2;
+    WANT(pcml_begin(p, (pcml_row){0, 0}, &recv7, 1, true, &(pcml_row){0, 0}), PCML_FOUND_LEFT);
+    first(p);
+    pcml_pass_free(p);
     printf("%d calls, %d wrong answers\n", asked, bad);
     return bad != 0;
 }

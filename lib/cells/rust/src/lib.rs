@@ -72,6 +72,9 @@ pub enum Found {
     Again,
 }
 
+/// A thread that no table has: a search that begins with it begins with none.
+const NO_THREAD: u32 = u32::MAX;
+
 /// Why a call did nothing: a number from 16 on, as the header lists them.
 #[derive(Clone, Copy, Debug, PartialEq, Eq)]
 pub struct Refused(pub u32);
@@ -116,11 +119,16 @@ pub struct Pass(Raw);
 // The library proves it of what the pass keeps.
 unsafe impl Send for Pass {}
 
-/// A table of 1 to 64 threads of 1 to 1,024 rows, with 1 to 16 passes.
+/// A table of 1 to 64 threads of 1 to 1,024 rows with room for 8 offers each, with 1 to 16 passes.
 pub fn table(threads: u32, rows: u32, passes: usize) -> Result<Vec<Pass>, Refused> {
+    short_table(threads, rows, 8, passes)
+}
+
+/// The same of rows that have room for 1 to 8 offers: it begins and ends the faster.
+pub fn short_table(threads: u32, rows: u32, offers: u32, passes: usize) -> Result<Vec<Pass>, Refused> {
     let mut raw: Vec<Raw> = (0..passes).map(|_| Raw { at: std::ptr::null_mut() }).collect();
     // SAFETY: so many empty handles lie there
-    told(unsafe { raw::pcml_cells_new(threads, rows, 0, raw.as_mut_ptr(), raw.len()) })?;
+    told(unsafe { raw::pcml_cells_new_short(threads, rows, offers, 0, raw.as_mut_ptr(), raw.len()) })?;
     Ok(raw.into_iter().map(Pass).collect())
 }
 
@@ -146,15 +154,25 @@ impl Pass {
 
     /// Takes the row before where it is not held yet, drafts, opens and searches.
     pub fn begin(&mut self, row: Row, offers: &[Offer], alone: bool) -> Result<Found, Refused> {
+        self.begin_from(row, offers, NO_THREAD, alone)
+    }
+
+    /// The same, but the newest row of thread `first` is tried before all others.
+    pub fn begin_from(&mut self, row: Row, offers: &[Offer], first: u32, alone: bool) -> Result<Found, Refused> {
         let mut met = Row::default();
-        let answer = unsafe { raw::pcml_begin(&mut self.0, row, offers.as_ptr(), offers.len(), alone, &mut met) };
+        let answer = unsafe { raw::pcml_begin_from(&mut self.0, row, offers.as_ptr(), offers.len(), first, alone, &mut met) };
         found(answer, met)
     }
 
     /// An offer that needs no partner is granted only where `alone` is true.
     pub fn search(&mut self, row: Row, alone: bool) -> Result<Found, Refused> {
+        self.search_from(row, NO_THREAD, alone)
+    }
+
+    /// The same, but the newest row of thread `first` is tried before all others.
+    pub fn search_from(&mut self, row: Row, first: u32, alone: bool) -> Result<Found, Refused> {
         let mut met = Row::default();
-        let answer = unsafe { raw::pcml_search(&mut self.0, row, alone, &mut met) };
+        let answer = unsafe { raw::pcml_search_from(&mut self.0, row, first, alone, &mut met) };
         found(answer, met)
     }
 

@@ -1,5 +1,5 @@
 //! Two threads meet, in safe Rust alone; and a pass that is not the last one comes back.
-use puttolive_cells::{table, Found, Message, Offer, Pass, Refused, Row};
+use puttolive_cells::{short_table, table, Found, Message, Offer, Pass, Refused, Row};
 use std::thread;
 
 const ROUNDS: u32 = 1_000;
@@ -52,4 +52,15 @@ fn refusals() {
     assert!(pass.holds(Row::default()));
     assert_eq!(pass.begin(Row::default(), &[Offer::always(Message::default())], true), Ok(Found::Alone));
     assert_eq!(table(0, 1, 1).err(), Some(Refused(18)));
+}
+
+#[test]
+fn first() {
+    let mut pass = short_table(3, 1, 1, 1).unwrap().pop().unwrap();
+    let row = |thread| Row { thread, sync: 0 };
+    assert_eq!(pass.draft(row(0), &[Offer::recv(7), Offer::recv(8)]), Err(Refused(18)));
+    for thread in 0..2 {
+        assert_eq!(pass.begin(row(thread), &[Offer::recv(7)], true), Ok(Found::Left));
+    }
+    assert_eq!(pass.begin_from(row(2), &[Offer::send(7, Message::number(1))], 1, true), Ok(Found::Met(row(1))));
 }
