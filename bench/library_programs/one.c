@@ -1,5 +1,5 @@
-/* TABLES WAY: one thread plays both sides of each rendezvous. WAY 0: draft, open, attempt, result and take, call by call;
- * 1: begin and answer. Prints ns a rendezvous of the calls, and with the tables that begin and end. */
+/* TABLES WAY [OFFERS]: one thread plays both sides of each rendezvous, at tables whose rows have room for so many offers
+ * (8). WAY 0: draft, open, attempt, result and take, call by call; 1: begin and answer. Prints ns a rendezvous of the calls, and with the tables that begin and end. */
 #define _POSIX_C_SOURCE 200809L
 #include "pcml_cells.h"
 #include <stdio.h>
@@ -24,12 +24,13 @@ static void by_two(pcml_pass *p, pcml_row x, pcml_row y, const pcml_offer *send,
 }
 int main(int count, char **words) {
     long tables = count > 1 ? atol(words[1]) : 100, way = count > 2 ? atol(words[2]) : 0;
+    uint32_t offers = count > 3 ? (uint32_t)atoi(words[3]) : 8;
     static pcml_commit commits[ROWS];
     uint64_t sum = 0;
     double start = now(), calls = 0;
     for (long k = 0; k < tables; k++) {
         pcml_pass p = PCML_PASS_INIT;
-        if (pcml_cells_new(2, ROWS, 0, &p, 1)) return 1;
+        if (pcml_cells_new_short(2, ROWS, offers, 0, &p, 1)) return 1;
         double begun = now();
         for (uint32_t g = 0; g < ROWS; g++) {
             pcml_offer send = {PCML_SEND, 0, 0, {1, {{PCML_NUMBER, g}}}}, recv = {PCML_RECV, 0, 0, {0, {{0, 0}}}};
