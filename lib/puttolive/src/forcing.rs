@@ -1,0 +1,191 @@
+//! A sync of one event: its guards are run, what it offers is collected, shown and waited for.
+
+use crate::hub::{HubCore, Port};
+use crate::latch::{self, Latch};
+use crate::record::{Pick, Record, Want};
+use crate::sync;
+use std::cell::Cell;
+use std::mem;
+use std::ops::Range;
+use std::sync::Arc;
+use std::time::Instant;
+
+/// The lists of a sync, kept by the thread for the next one, so that a sync takes no memory.
+#[derive(Default)]
+struct Lists {
+    wants: Vec<Want>,
+    /// Latches, and the base event that each is.
+    latches: Vec<(Arc<Latch>, u32)>,
+    /// Where the sync stands in the list of each latch.
+    entries: Vec<usize>,
+}
+
+thread_local! {
+    static LISTS: Cell<Option<Lists>> = const { Cell::new(None) };
+    /// The record of this thread's syncs, but while one runs: a waker may run another in it.
+    static RECORD: Cell<Option<Arc<Record>>> = const { Cell::new(None) };
+}
+
+/// What a sync collects while it runs guards, and what it waits by. Dropped before the sync was performed (a guard has
+/// panicked), it fires the nacks.
+#[doc(hidden)]
+pub struct Forcing {
+    bases: u32,
+    lists: Lists,
+    hub: Option<Arc<HubCore>>,
+    deadline: Option<(Instant, u32)>,
+    always: Option<u32>,
+    /// Nacks, and the base events that each encloses.
+    nacks: Vec<(Arc<Latch>, Range<u32>)>,
+}
+
+impl Forcing {
+    pub(crate) fn new() -> Forcing {
+        let lists = LISTS.try_with(Cell::take).ok().flatten().unwrap_or_default();
+        Forcing { bases: 0, lists, hub: None, deadline: None, always: None, nacks: Vec::new() }
+    }
+
+    // ---- what events offer
+
+    /// The number of the next base event.
+    pub(crate) fn bases(&self) -> u32 {
+        self.bases
+    }
+
+    fn base(&mut self) -> u32 {
+        self.bases += 1;
+        self.bases - 1
+    }
+
+    /// Offers to send what lies there, or to receive: the number of this base event.
+    pub(crate) fn want(&mut self, port: &Arc<Port>, is_send: bool, value: u32) -> u32 {
+        match &self.hub {
+            None => self.hub = Some(port.hub.clone()),
+            Some(hub) => assert!(Arc::ptr_eq(hub, &port.hub), "channels of two hubs in one choice"),
+        }
+        let base = self.base();
+        self.lists.wants.push(port.want(base, is_send, value));
+        base
+    }
+
+    pub(crate) fn always(&mut self) {
+        let base = self.base();
+        self.always.get_or_insert(base);
+    }
+
+    pub(crate) fn deadline(&mut self, time: Instant) {
+        let base = self.base();
+        if self.deadline.is_none_or(|(earliest, _)| time < earliest) {
+            self.deadline = Some((time, base));
+        }
+    }
+
+    pub(crate) fn latch(&mut self, latch: Arc<Latch>) {
+        let base = self.base();
+        self.lists.latches.push((latch, base));
+    }
+
+    /// Adds a nack. Its scope is empty until it is known: so a panic fires it.
+    pub(crate) fn nack(&mut self, latch: Arc<Latch>) -> usize {
+        self.nacks.push((latch, 0..0));
+        self.nacks.len() - 1
+    }
+
+    /// The nack encloses the base events from that one on.
+    pub(crate) fn enclose(&mut self, nack: usize, from: u32) {
+        self.nacks[nack].1 = from..self.bases;
+    }
+
+    // ---- the sync
+
+    /// Runs the sync in this thread, up to its answer.
+    pub(crate) fn perform(&mut self) -> (Arc<Record>, Pick) {
+        let own = RECORD.try_with(Cell::take).ok().flatten();
+        let record = own.unwrap_or_else(Record::of_this_thread);
+        let pick = match self.start(&record) {
+            Ok(pick) => pick,
+            Err(ticket) => self.sleep(&record, ticket),
+        };
+        (record, pick)
+    }
+
+    /// Begins a sync: its answer, or the ticket under which it waits.
+    pub(crate) fn start(&mut self, record: &Arc<Record>) -> Result<Pick, u64> {
+        let fired = self.lists.latches.iter().find(|(latch, _)| latch.has_fired()).map(|(_, base)| *base);
+        let is_over = |(time, _): &(Instant, u32)| sync::now() >= *time;
+        let always = fired.or(self.always).or_else(|| self.deadline.filter(is_over).map(|(_, base)| base));
+        if let (None, Some(base)) = (&self.hub, always) {
+            return Ok(Pick { base, number: 0 });
+        }
+        let wants = self.lists.wants.len();
+        // in another order each time, so that none comes always first
+        if wants > 1 {
+            self.lists.wants.rotate_left(sync::dice() as usize % wants);
+        }
+        let ticket = record.begin(mem::take(&mut self.lists.wants), always);
+        let hub = self.hub.as_ref();
+        if let Some(pick) = hub.and_then(|hub| hub.enter(record, ticket, wants)) {
+            return Ok(pick);
+        }
+        let entries = self.lists.latches.iter().map(|(latch, base)| latch.enter(record, ticket, *base, hub));
+        self.lists.entries.extend(entries);
+        Err(ticket)
+    }
+
+    /// Answers the sync by a base event that stands in no table, where it has no answer yet.
+    pub(crate) fn alarm(&self, record: &Arc<Record>, ticket: u64, base: u32) -> bool {
+        latch::alarm(record, ticket, base, self.hub.as_ref())
+    }
+
+    /// When the sync is answered by which base event, if nothing else is, and in which hub it stands.
+    pub(crate) fn due(&self) -> Option<(Instant, u32, Option<Arc<HubCore>>)> {
+        self.deadline.map(|(time, base)| (time, base, self.hub.clone()))
+    }
+
+    fn sleep(&mut self, record: &Arc<Record>, ticket: u64) -> Pick {
+        let spin = self.hub.as_ref().map_or(0, |hub| hub.config.spin);
+        loop {
+            if let Some(pick) = record.settled() {
+                return pick;
+            }
+            record.sleep(spin, self.deadline.map(|(time, _)| time));
+            if let Some((time, base)) = self.deadline
+                && sync::now() >= time
+            {
+                self.alarm(record, ticket, base);
+            }
+        }
+    }
+
+    /// What follows an answer: no latch knows of the sync any more, and its nacks fire.
+    pub(crate) fn end(&mut self, record: &Arc<Record>, pick: Pick) {
+        for ((latch, _), entry) in self.lists.latches.iter().zip(self.lists.entries.drain(..)) {
+            latch.leave(record, entry);
+        }
+        self.lists.wants = record.end();
+        for (latch, scope) in self.nacks.drain(..) {
+            if !scope.contains(&pick.base) {
+                latch.fire();
+            }
+        }
+    }
+
+    /// The same for a sync of this thread, whose record it may use again.
+    pub(crate) fn end_here(&mut self, record: Arc<Record>, pick: Pick) {
+        self.end(&record, pick);
+        let _ = RECORD.try_with(|own| own.set(Some(record)));
+    }
+}
+
+impl Drop for Forcing {
+    fn drop(&mut self) {
+        for (latch, _) in self.nacks.drain(..) {
+            latch.fire();
+        }
+        let mut lists = mem::take(&mut self.lists);
+        lists.wants.clear();
+        lists.latches.clear();
+        lists.entries.clear();
+        let _ = LISTS.try_with(|own| own.set(Some(lists)));
+    }
+}
