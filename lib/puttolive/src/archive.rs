@@ -147,3 +147,41 @@ impl Drop for Pass {
         unsafe { pcml_pass_free(&mut self.handle) }
     }
 }
+
+/// The calls that `begin` is made of: for the test that plays archive and stand-in side by side.
+#[cfg(test)]
+mod parts {
+    use super::{Handle, Pass, told};
+    use crate::table::{Offer, Refused, Row};
+
+    unsafe extern "C" {
+        fn pcml_holds(pass: *mut Handle, row: Row) -> bool;
+        fn pcml_draft(pass: *mut Handle, row: Row, offers: *const Offer, count: usize) -> u32;
+        fn pcml_open(pass: *mut Handle, row: Row) -> u32;
+        fn pcml_attempt(pass: *mut Handle, mine: Row, own: u32, other: Row, partner: u32) -> u32;
+        fn pcml_take(pass: *mut Handle, row: Row) -> u32;
+    }
+
+    // SAFETY of the calls below: as above.
+    impl Pass {
+        pub(crate) fn holds(&mut self, row: Row) -> bool {
+            unsafe { pcml_holds(&mut self.handle, row) }
+        }
+
+        pub(crate) fn draft(&mut self, row: Row, offers: &[Offer]) -> Result<(), Refused> {
+            told(unsafe { pcml_draft(&mut self.handle, row, offers.as_ptr(), offers.len()) }).map(drop)
+        }
+
+        pub(crate) fn open(&mut self, row: Row) -> Result<(), Refused> {
+            told(unsafe { pcml_open(&mut self.handle, row) }).map(drop)
+        }
+
+        pub(crate) fn attempt(&mut self, mine: Row, own: u32, other: Row, partner: u32) -> Result<u32, Refused> {
+            told(unsafe { pcml_attempt(&mut self.handle, mine, own, other, partner) })
+        }
+
+        pub(crate) fn take(&mut self, row: Row) -> Result<bool, Refused> {
+            told(unsafe { pcml_take(&mut self.handle, row) }).map(|answer| answer == 0)
+        }
+    }
+}

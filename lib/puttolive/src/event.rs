@@ -45,9 +45,10 @@ pub trait Event: Sized {
     fn sync(self) -> Self::Output {
         let mut forcing = Forcing::new();
         let mut ready = self.force(&mut forcing);
-        let (record, pick) = forcing.perform();
+        let (record, answered) = forcing.perform();
+        let pick = answered.pick;
         ready.settle(pick);
-        forcing.end_here(record, pick);
+        forcing.end_here(record, answered);
         drop(forcing);
         ready.finish(pick)
     }

@@ -1,8 +1,8 @@
 //! A sync of one event: its guards are run, what it offers is collected, shown and waited for.
 
-use crate::hub::{HubCore, Port};
+use crate::hub::{HubRef, Port};
 use crate::latch::{self, Latch};
-use crate::record::{Pick, Record, Want};
+use crate::record::{Answered, Pick, Record, Want};
 use crate::sync;
 use std::cell::Cell;
 use std::mem;
@@ -32,7 +32,7 @@ thread_local! {
 pub struct Forcing {
     bases: u32,
     lists: Lists,
-    hub: Option<Arc<HubCore>>,
+    hub: Option<HubRef>,
     deadline: Option<(Instant, u32)>,
     always: Option<u32>,
     /// Nacks, and the base events that each encloses.
@@ -61,7 +61,7 @@ impl Forcing {
     pub(crate) fn want(&mut self, port: &Arc<Port>, is_send: bool, value: u32) -> u32 {
         match &self.hub {
             None => self.hub = Some(port.hub.clone()),
-            Some(hub) => assert!(Arc::ptr_eq(hub, &port.hub), "channels of two hubs in one choice"),
+            Some(hub) => assert!(hub.is(&port.hub), "channels of two hubs in one choice"),
         }
         let base = self.base();
         self.lists.wants.push(port.want(base, is_send, value));
@@ -99,23 +99,23 @@ impl Forcing {
     // ---- the sync
 
     /// Runs the sync in this thread, up to its answer.
-    pub(crate) fn perform(&mut self) -> (Arc<Record>, Pick) {
+    pub(crate) fn perform(&mut self) -> (Arc<Record>, Answered) {
         let own = RECORD.try_with(Cell::take).ok().flatten();
         let record = own.unwrap_or_else(Record::of_this_thread);
-        let pick = match self.start(&record) {
-            Ok(pick) => pick,
+        let answered = match self.start(&record) {
+            Ok(answered) => answered,
             Err(ticket) => self.sleep(&record, ticket),
         };
-        (record, pick)
+        (record, answered)
     }
 
     /// Begins a sync: its answer, or the ticket under which it waits.
-    pub(crate) fn start(&mut self, record: &Arc<Record>) -> Result<Pick, u64> {
+    pub(crate) fn start(&mut self, record: &Arc<Record>) -> Result<Answered, u64> {
         let fired = self.lists.latches.iter().find(|(latch, _)| latch.has_fired()).map(|(_, base)| *base);
         let is_over = |(time, _): &(Instant, u32)| sync::now() >= *time;
         let always = fired.or(self.always).or_else(|| self.deadline.filter(is_over).map(|(_, base)| base));
         if let (None, Some(base)) = (&self.hub, always) {
-            return Ok(Pick { base, number: 0 });
+            return Ok(Answered { pick: Pick { base, number: 0 }, wants: Vec::new() });
         }
         let wants = self.lists.wants.len();
         // in another order each time, so that none comes always first
@@ -124,8 +124,8 @@ impl Forcing {
         }
         let ticket = record.begin(mem::take(&mut self.lists.wants), always);
         let hub = self.hub.as_ref();
-        if let Some(pick) = hub.and_then(|hub| hub.enter(record, ticket, wants)) {
-            return Ok(pick);
+        if let Some(answered) = hub.and_then(|hub| hub.enter(record, ticket, wants, always.is_none())) {
+            return Ok(answered);
         }
         let entries = self.lists.latches.iter().map(|(latch, base)| latch.enter(record, ticket, *base, hub));
         self.lists.entries.extend(entries);
@@ -138,15 +138,15 @@ impl Forcing {
     }
 
     /// When the sync is answered by which base event, if nothing else is, and in which hub it stands.
-    pub(crate) fn due(&self) -> Option<(Instant, u32, Option<Arc<HubCore>>)> {
+    pub(crate) fn due(&self) -> Option<(Instant, u32, Option<HubRef>)> {
         self.deadline.map(|(time, base)| (time, base, self.hub.clone()))
     }
 
-    fn sleep(&mut self, record: &Arc<Record>, ticket: u64) -> Pick {
+    fn sleep(&mut self, record: &Arc<Record>, ticket: u64) -> Answered {
         let spin = self.hub.as_ref().map_or(0, |hub| hub.config.spin);
         loop {
-            if let Some(pick) = record.settled() {
-                return pick;
+            if let Some(answered) = record.settled() {
+                return answered;
             }
             record.sleep(spin, self.deadline.map(|(time, _)| time));
             if let Some((time, base)) = self.deadline
@@ -158,28 +158,29 @@ impl Forcing {
     }
 
     /// What follows an answer: no latch knows of the sync any more, and its nacks fire.
-    pub(crate) fn end(&mut self, record: &Arc<Record>, pick: Pick) {
+    pub(crate) fn end(&mut self, record: &Arc<Record>, answered: Answered) {
         for ((latch, _), entry) in self.lists.latches.iter().zip(self.lists.entries.drain(..)) {
             latch.leave(record, entry);
         }
-        self.lists.wants = record.end();
-        for (latch, scope) in self.nacks.drain(..) {
-            if !scope.contains(&pick.base) {
+        self.lists.wants = answered.wants;
+        for (latch, scope) in mem::take(&mut self.nacks) {
+            if !scope.contains(&answered.pick.base) {
                 latch.fire();
             }
         }
     }
 
     /// The same for a sync of this thread, whose record it may use again.
-    pub(crate) fn end_here(&mut self, record: Arc<Record>, pick: Pick) {
-        self.end(&record, pick);
+    pub(crate) fn end_here(&mut self, record: Arc<Record>, answered: Answered) {
+        self.end(&record, answered);
         let _ = RECORD.try_with(|own| own.set(Some(record)));
     }
 }
 
 impl Drop for Forcing {
     fn drop(&mut self) {
-        for (latch, _) in self.nacks.drain(..) {
+        // they are left where a guard has panicked
+        for (latch, _) in mem::take(&mut self.nacks) {
             latch.fire();
         }
         let mut lists = mem::take(&mut self.lists);

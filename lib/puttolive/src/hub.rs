@@ -20,7 +20,7 @@
 //!    of them put each other's out by turns.
 //!
 //! **Locks**, in the order in which they are taken. Nobody takes one of a line above while he has one of a line below, but
-//! for passes that are tried and not waited for. No code of a user runs under any of them: wakers are called behind all.
+//! for passes that are tried and not waited for. No code of a user runs under any of them: tasks' wakers are called behind all.
 //!
 //! 1. the room (rule 4);
 //! 2. the turning: one thread at a time ends a table;
@@ -51,6 +51,8 @@ use lines::Lines;
 use ports::Numbers;
 use shown::Shown;
 use slots::{Shape, SharedShape, Slot};
+use std::ops::Deref;
+use std::ptr;
 use std::sync::{Arc, LazyLock};
 use std::time::Duration;
 
@@ -83,7 +85,7 @@ pub struct Config {
 
 impl Default for Config {
     fn default() -> Config {
-        Config { slots: 64, rows: 16, passes: 16, spin: 20 }
+        Config { slots: 64, rows: 16, passes: 16, spin: 60 }
     }
 }
 
@@ -131,8 +133,34 @@ pub(crate) struct HubCore {
     audited: AtomicU64,
 }
 
-/// What a thread has taken and owes while it shows a sync. At its end the room is free again, and then those are woken who
-/// have an answer, with no lock in hand.
+/// A hub, which those who use it keep.
+#[derive(Clone)]
+pub(crate) enum HubRef {
+    /// That of the program: it stays, and nobody counts.
+    Program(&'static HubCore),
+    Own(Arc<HubCore>),
+}
+
+impl HubRef {
+    /// Whether both are one hub.
+    pub(crate) fn is(&self, other: &HubRef) -> bool {
+        ptr::eq::<HubCore>(&**self, &**other)
+    }
+}
+
+impl Deref for HubRef {
+    type Target = HubCore;
+
+    fn deref(&self) -> &HubCore {
+        match self {
+            HubRef::Program(core) => core,
+            HubRef::Own(core) => core,
+        }
+    }
+}
+
+/// What a thread has taken and owes while it shows a sync. At its end the room is free again, and then those tasks are woken
+/// that have an answer, with no lock in hand.
 struct Visit<'a> {
     hub: &'a HubCore,
     /// The right to put syncs out of the table, taken when it is first needed.
@@ -150,8 +178,10 @@ impl<'a> Visit<'a> {
         self.room.get_or_insert_with(|| lock(&self.hub.room));
     }
 
+    /// Wakes a thread at once, and a task at the end: its waker is code of a user.
     fn wake(&mut self, record: Arc<Record>) {
         match self.first_woken {
+            _ if record.is_of_thread() => record.wake(),
             None => self.first_woken = Some(record),
             Some(_) => self.others_woken.push(record),
         }
@@ -170,13 +200,13 @@ impl Drop for Visit<'_> {
 impl HubCore {
     /// # Panics
     /// Where a measure is out of its range.
-    pub(crate) fn new(config: Config, is_audited: bool) -> Arc<HubCore> {
+    fn new(config: Config, is_audited: bool) -> HubCore {
         assert!((2..=64).contains(&config.slots), "a hub has 2 to 64 slots");
         assert!((1..=1024).contains(&config.rows), "a hub has 1 to 1024 rows");
         assert!((1..=16).contains(&config.passes), "a hub has 1 to 16 passes");
         let shape = Shape::first(&config);
         let passes = HubCore::table(&config, shape);
-        Arc::new(HubCore {
+        HubCore {
             config,
             is_audited,
             passes: passes.into_iter().map(|pass| Padded(Mutex::new(pass))).collect(),
@@ -195,7 +225,7 @@ impl HubCore {
             turning_nanoseconds: AtomicU64::new(0),
             evictions: AtomicU64::new(0),
             audited: AtomicU64::new(0),
-        })
+        }
     }
 
     pub(crate) fn stats(&self) -> Stats {
@@ -219,7 +249,7 @@ impl HubCore {
             Place::Idle | Place::Done(_) => return false,
             Place::Out => self.bench.remove(&mut job),
             Place::Table { row, from } => {
-                if !grant_last(&mut pass, row, from, &job) {
+                if !grant(&mut pass, row, job.count(from)) {
                     return false;
                 }
                 self.leave(&mut job, row, from);
@@ -251,7 +281,7 @@ impl HubCore {
         }
         // rule 2: on the bench first
         self.bench.put(&mut job, record);
-        if !grant_last(&mut pass, row, from, &job) {
+        if !grant(&mut pass, row, job.count(from)) {
             return None;
         }
         self.evictions.fetch_add(1, SeqCst);
@@ -269,13 +299,10 @@ fn answer(pass: &mut Pass, row: Row, from: usize, job: &Job) -> Pick {
     job.pick(from, answer.own, answer.number)
 }
 
-/// Commits the row alone by its last offer, if it is not committed and waits.
-fn grant_last(pass: &mut Pass, row: Row, from: usize, job: &Job) -> bool {
-    if job.ends_at_once(from) {
-        return false;
-    }
+/// Commits the row alone by this offer, an always. False where it is committed already.
+fn grant(pass: &mut Pass, row: Row, offer: usize) -> bool {
     loop {
-        match pass.grant(row, job.count(from) as u32).expect("a row of the table") {
+        match pass.grant(row, offer as u32).expect("a row of the table") {
             Grant::Given => return true,
             Grant::Late if pass.is_committed(row).expect("a row of the table") => return false,
             // another thread claims it for a moment, or is about to open it
@@ -307,7 +334,7 @@ fn pause() {
 /// ```
 #[derive(Clone)]
 pub struct Hub {
-    core: Arc<HubCore>,
+    core: HubRef,
 }
 
 impl std::fmt::Debug for Hub {
@@ -319,8 +346,9 @@ impl std::fmt::Debug for Hub {
 impl Hub {
     /// The hub of the program.
     pub fn global() -> &'static Hub {
-        static GLOBAL: LazyLock<Hub> = LazyLock::new(|| Hub::with(Config::default()));
-        &GLOBAL
+        static CORE: LazyLock<HubCore> = LazyLock::new(|| HubCore::new(Config::default(), false));
+        static PROGRAM: LazyLock<Hub> = LazyLock::new(|| Hub { core: HubRef::Program(&CORE) });
+        &PROGRAM
     }
 
     /// A hub with these measures.
@@ -328,13 +356,13 @@ impl Hub {
     /// # Panics
     /// Where one is out of its range.
     pub fn with(config: Config) -> Hub {
-        Hub { core: HubCore::new(config, false) }
+        Hub { core: HubRef::Own(Arc::new(HubCore::new(config, false))) }
     }
 
     /// The same, which audits the ledger of each table that it ends, and panics where one is not lawful. For tests.
     #[doc(hidden)]
     pub fn audited(config: Config) -> Hub {
-        Hub { core: HubCore::new(config, true) }
+        Hub { core: HubRef::Own(Arc::new(HubCore::new(config, true))) }
     }
 
     /// A channel of this hub.

@@ -1,7 +1,7 @@
 //! Latches: what happens once, and is seen by all who ask then or later. Nacks, the ends of threads, closed halves and
 //! signals of the user are latches. A latch stands in no table.
 
-use crate::hub::HubCore;
+use crate::hub::HubRef;
 use crate::record::Record;
 use crate::sync::atomic::{AtomicBool, Ordering::SeqCst};
 use crate::sync::{Mutex, lock};
@@ -19,7 +19,7 @@ struct Entry {
     record: Arc<Record>,
     ticket: u64,
     base: u32,
-    hub: Option<Arc<HubCore>>,
+    hub: Option<HubRef>,
 }
 
 #[derive(Default)]
@@ -67,7 +67,7 @@ impl Latch {
     }
 
     /// From now on whoever fires the latch knows of the sync. Where it was fired before, the sync is told at once.
-    pub(crate) fn enter(&self, record: &Arc<Record>, ticket: u64, base: u32, hub: Option<&Arc<HubCore>>) -> usize {
+    pub(crate) fn enter(&self, record: &Arc<Record>, ticket: u64, base: u32, hub: Option<&HubRef>) -> usize {
         {
             let mut entries = lock(&self.entries);
             if !self.has_fired() {
@@ -93,7 +93,7 @@ impl Latch {
 }
 
 /// Answers a sync by a base event that stands in no table. False where it has its answer already.
-pub(crate) fn alarm(record: &Arc<Record>, ticket: u64, base: u32, hub: Option<&Arc<HubCore>>) -> bool {
+pub(crate) fn alarm(record: &Arc<Record>, ticket: u64, base: u32, hub: Option<&HubRef>) -> bool {
     match hub {
         Some(hub) => hub.alarm(record, ticket, base),
         None => record.settle(ticket, base),

@@ -15,6 +15,8 @@ mod record;
 #[allow(missing_docs)]
 pub mod schedule;
 mod select;
+#[cfg(all(test, not(schedules)))]
+mod side_by_side;
 mod signal;
 #[cfg(any(test, schedules))]
 mod stand_in;

@@ -6,9 +6,10 @@ use crate::sync::{self, Mutex, Thread, lock};
 use crate::table::{OFFERS, Offer, Row};
 use std::cell::Cell;
 use std::panic::{AssertUnwindSafe, catch_unwind};
+use std::mem;
 use std::sync::Arc;
 use std::task::{Context, Waker};
-use std::time::Instant;
+use std::time::{Duration, Instant};
 
 /// A send or a receive of a sync.
 pub(crate) struct Want {
@@ -40,6 +41,13 @@ pub(crate) enum Tail {
 pub struct Pick {
     pub(crate) base: u32,
     pub(crate) number: u32,
+}
+
+/// The answer of a sync that is over.
+pub(crate) struct Answered {
+    pub(crate) pick: Pick,
+    /// Its list of wants, emptied, to be used again.
+    pub(crate) wants: Vec<Want>,
 }
 
 /// Where a sync stands.
@@ -74,6 +82,14 @@ impl Job {
     /// How many wants a row shows from there on.
     pub(crate) fn count(&self, from: usize) -> usize {
         (self.wants.len() - from).min(WINDOW)
+    }
+
+    /// The sync is over: its answer, for its thread.
+    pub(crate) fn end(&mut self, pick: Pick) -> Answered {
+        self.place = Place::Idle;
+        let mut wants = mem::take(&mut self.wants);
+        wants.clear();
+        Answered { pick, wants }
     }
 
     /// The wants that a row shows from there on.
@@ -126,6 +142,32 @@ thread_local! {
     static KEPT: Cell<Option<Arc<Record>>> = const { Cell::new(None) };
 }
 
+/// Who lets others run for so long shares the processor with other work: to sleep is better then.
+const LONG: Duration = Duration::from_micros(500);
+/// For so many waits.
+const SLEEPS: u32 = 1000;
+
+thread_local! {
+    /// How many further waits of this thread let nobody else run.
+    static SLEEPY: Cell<u32> = const { Cell::new(0) };
+}
+
+/// Lets others run, where they do not take long. Whether it was so.
+fn lets_others_run() -> bool {
+    let left = SLEEPY.try_with(Cell::get).unwrap_or(0);
+    if left > 0 {
+        let _ = SLEEPY.try_with(|sleepy| sleepy.set(left - 1));
+        return false;
+    }
+    let before = sync::now();
+    sync::pass_on();
+    let is_soon = sync::now().saturating_duration_since(before) < LONG;
+    if !is_soon {
+        let _ = SLEEPY.try_with(|sleepy| sleepy.set(SLEEPS));
+    }
+    is_soon
+}
+
 /// The next age. Ages are of all hubs, since a record may be used in each.
 static AGES: AtomicU64 = AtomicU64::new(0);
 
@@ -176,11 +218,8 @@ impl Record {
         job.ticket
     }
 
-    /// A sync is over that has its answer: its list, emptied, to be used again.
-    pub(crate) fn end(&self) -> Vec<Want> {
-        let mut wants = std::mem::take(&mut lock(&self.job).wants);
-        wants.clear();
-        wants
+    pub(crate) fn is_of_thread(&self) -> bool {
+        matches!(self.sleeper, Sleeper::Thread(_))
     }
 
     /// Tells the thread or the task to look for its answer. It may be told so for nothing. A task's waker is code of a
@@ -200,12 +239,12 @@ impl Record {
     }
 
     /// Asks for the answer of a task's sync, and where there is none has the task woken later.
-    pub(crate) fn poll(&self, context: &Context<'_>) -> Option<Pick> {
+    pub(crate) fn poll(&self, context: &Context<'_>) -> Option<Answered> {
         let Sleeper::Task(waker) = &self.sleeper else { unreachable!("a task's record") };
         loop {
             self.word.store(Record::WAIT, SeqCst);
-            if let Some(pick) = self.settled() {
-                return Some(pick);
+            if let Some(answered) = self.settled() {
+                return Some(answered);
             }
             // code of a user clones and drops wakers: under no lock
             let fresh = context.waker().clone();
@@ -232,7 +271,7 @@ impl Record {
         self.word.store(Record::WAIT, SeqCst);
     }
 
-    /// A few looks that grow longer, then such that let others run.
+    /// A few looks that grow longer, then such that let others run, while they come back soon.
     fn look_often(&self, looks: u32) {
         for look in 0..looks {
             if self.word.load(SeqCst) == Record::WOKEN {
@@ -240,20 +279,19 @@ impl Record {
             }
             if look < 6 {
                 (0..1 << look).for_each(|_| sync::spin_hint());
-            } else {
-                sync::pass_on();
+            } else if !lets_others_run() {
+                return;
             }
         }
     }
 
     /// Takes the sync's answer, if it has one.
-    pub(crate) fn settled(&self) -> Option<Pick> {
+    pub(crate) fn settled(&self) -> Option<Answered> {
         let mut job = lock(&self.job);
-        let Place::Done(pick) = job.place else {
-            return None;
-        };
-        job.place = Place::Idle;
-        Some(pick)
+        match job.place {
+            Place::Done(pick) => Some(job.end(pick)),
+            _ => None,
+        }
     }
 
     /// Answers a sync that stands in no hub. False where it has its answer already, or another sync runs.

@@ -249,7 +249,12 @@ impl Table {
                 }
             }
         }
-        if is_held_up { Found::Again } else { Found::Left }
+        match self.joined(row) {
+            _ if is_held_up => Found::Again,
+            // it was committed by another while it looked
+            Some(_) => Found::Already,
+            None => Found::Left,
+        }
     }
 }
 
@@ -265,6 +270,10 @@ impl Pass {
 
     pub(crate) fn holds(&mut self, row: Row) -> bool {
         row.thread < self.table.threads && row.sync <= self.table.rows && self.held[self.place(row)]
+    }
+
+    fn has_room(&self, offers: &[Offer]) -> Result<(), Refused> {
+        (offers.len() <= self.table.offers as usize).then_some(()).ok_or(RANGE)
     }
 
     fn is_there(&self, row: Row) -> Result<(), Refused> {
@@ -288,10 +297,8 @@ impl Pass {
 
     /// Writes the offers of a held row that is not opened.
     pub(crate) fn draft(&mut self, row: Row, offers: &[Offer]) -> Result<(), Refused> {
+        self.has_room(offers)?;
         self.is_fresh(row)?;
-        if offers.len() > self.table.offers as usize {
-            return Err(RANGE);
-        }
         for (number, offer) in (0..).zip(offers) {
             self.table.word(row, 2 + 2 * number).store(u64::from(offer.kind | offer.of << 3), SeqCst);
             self.table.word(row, 3 + 2 * number).store(offer.message.atoms[0].value.into(), SeqCst);
@@ -324,6 +331,7 @@ impl Pass {
     /// Takes the row before where this pass does not hold this one yet, drafts and opens it, and looks for a row that it
     /// can meet: first the newest row of that thread.
     pub(crate) fn begin(&mut self, row: Row, offers: &[Offer], first: Option<u32>) -> Result<Found, Refused> {
+        self.has_room(offers)?;
         self.is_there(row)?;
         if !self.holds(row) && row.sync > 0 {
             self.take(Row { sync: row.sync - 1, ..row })?;
@@ -340,9 +348,11 @@ impl Pass {
     }
 
     /// Tries to commit a held opened row with another one, by one offer of each.
+    #[cfg(all(test, not(schedules)))]
     pub(crate) fn attempt(&mut self, mine: Row, own: u32, other: Row, partner: u32) -> Result<Attempt, Refused> {
-        self.is_open(mine)?;
+        self.is_there(mine)?;
         self.is_there(other)?;
+        self.is_open(mine)?;
         Ok(self.table.attempt(mine, own, other, partner))
     }
 

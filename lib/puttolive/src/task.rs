@@ -2,7 +2,7 @@
 
 use crate::event::{Event, Ready};
 use crate::forcing::Forcing;
-use crate::record::{Pick, Record};
+use crate::record::{Answered, Record};
 use crate::sync;
 use crate::timer::{Due, Timer};
 use std::pin::Pin;
@@ -58,7 +58,7 @@ impl<E: Event> Waits<E> {
         let started = forcing.start(&record);
         let mut waits = Waits { forcing, ready, record, ticket: 0, timer: None };
         match started {
-            Ok(pick) => Ok(waits.finish(pick)),
+            Ok(answered) => Ok(waits.finish(answered)),
             Err(ticket) => {
                 waits.ticket = ticket;
                 waits.timer = waits.forcing.due().map(|(time, base, hub)| {
@@ -70,10 +70,11 @@ impl<E: Event> Waits<E> {
         }
     }
 
-    fn finish(mut self, pick: Pick) -> E::Output {
+    fn finish(mut self, answered: Answered) -> E::Output {
+        let pick = answered.pick;
         self.ready.settle(pick);
         drop(self.timer);
-        self.forcing.end(&self.record, pick);
+        self.forcing.end(&self.record, answered);
         drop(self.forcing);
         Record::keep(self.record);
         self.ready.finish(pick)
@@ -82,18 +83,18 @@ impl<E: Event> Waits<E> {
     /// The task does not wait any more. What it got by then is dropped.
     fn give_up(mut self) {
         let is_dropped = self.forcing.alarm(&self.record, self.ticket, DROPPED);
-        let pick = loop {
-            if let Some(pick) = self.record.settled() {
-                break pick;
+        let answered = loop {
+            if let Some(answered) = self.record.settled() {
+                break answered;
             }
             // its partner is about to settle it
             sync::pass_on();
         };
         if !is_dropped {
-            self.ready.settle(pick);
+            self.ready.settle(answered.pick);
         }
         drop(self.timer);
-        self.forcing.end(&self.record, pick);
+        self.forcing.end(&self.record, answered);
     }
 }
 
@@ -110,11 +111,11 @@ impl<E: Event> Future for Synced<E> {
             }
         }
         let State::Waits(waits) = &this.state else { panic!("polled after its answer") };
-        let Some(pick) = waits.record.poll(context) else {
+        let Some(answered) = waits.record.poll(context) else {
             return Poll::Pending;
         };
         let State::Waits(waits) = mem::replace(&mut this.state, State::Over) else { unreachable!("it waits") };
-        Poll::Ready(waits.finish(pick))
+        Poll::Ready(waits.finish(answered))
     }
 }
 

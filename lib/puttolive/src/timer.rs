@@ -1,7 +1,7 @@
 //! Deadlines of tasks. One thread looks after all of them, and sleeps until the first; it begins with the first deadline of
 //! a task. Threads look after their own.
 
-use crate::hub::HubCore;
+use crate::hub::HubRef;
 use crate::latch;
 use crate::record::Record;
 #[cfg(schedules)]
@@ -15,7 +15,7 @@ pub(crate) struct Due {
     pub(crate) record: Arc<Record>,
     pub(crate) ticket: u64,
     pub(crate) base: u32,
-    pub(crate) hub: Option<Arc<HubCore>>,
+    pub(crate) hub: Option<HubRef>,
 }
 
 impl Due {

@@ -5,13 +5,14 @@
 //! RUSTFLAGS='--cfg schedules' CARGO_TARGET_DIR=target/schedules cargo test --release --test schedules
 //! ```
 //!
-//! `SCHEDULES=N` plays N schedules in all (20,000 where it is not set), `SCENARIO=name` one program alone, and `SEED=n`
-//! with `SWITCH=k` one schedule again; `TRACE=1` tells each step of it, and `FROM=n` is the first seed of many. Here the hub has windows of 2 offers and 9 channel
-//! numbers to lend, so that few steps reach what is rare.
+//! `SCHEDULES=N` plays N schedules in all (20,000 where it is not set) from seed `FROM=n` on, `SCENARIO=name` one program
+//! alone, and `SEED=n` with `SWITCH=k` one schedule again; `TRACE=1` tells each step of it. Here the hub has windows of 2
+//! offers and 9 channel numbers to lend, so that few steps reach what is rare.
 #![cfg(schedules)]
 
 use puttolive::schedule::{self, Body, Plan, holds_no_lock, pass_on, wait_for_quiet};
 use puttolive::*;
+use std::cell::RefCell;
 use std::io::Write;
 use std::panic::{AssertUnwindSafe, catch_unwind, resume_unwind};
 use std::pin::Pin;
@@ -26,7 +27,7 @@ use std::time::Duration;
 const SWITCHES: [u64; 3] = [3, 10, 40];
 
 /// Schedules that failed once: the scenario, its seed, its switch.
-const ONCE_FAILED: &[(&str, u64, u64)] = &[];
+const ONCE_FAILED: &[(&str, u64, u64)] = &[("first_come", 1, 3)];
 
 #[test]
 fn schedules() {
@@ -64,6 +65,59 @@ fn schedules() {
     for scenario in scenarios {
         scenario.play_many(number("FROM").unwrap_or(1), each);
     }
+}
+
+/// What the scheduler itself has to see: programs that are broken, each played in a process of its own, which it ends.
+#[test]
+fn broken_programs_are_seen() {
+    const KINDS: [(&str, &str); 5] = [
+        ("parks", "a hang"),
+        ("locks", "a hang"),
+        ("spins", "no end"),
+        ("panics", "a panic of thread 1: on purpose"),
+        ("spawns", "a panic that nobody joined: on purpose"),
+    ];
+    if let Some(kind) = asked("BROKEN") {
+        Plan { name: &kind, limit: 10_000, ..Plan::default() }.run(broken(&kind));
+        return;
+    }
+    for (kind, why) in KINDS {
+        let mut program = Command::new(std::env::current_exe().unwrap());
+        program.args(["--exact", "broken_programs_are_seen", "--nocapture"]).env("BROKEN", kind);
+        let output = program.output().unwrap();
+        let told = String::from_utf8_lossy(&output.stderr);
+        assert!(!output.status.success() && told.contains(&format!("FAILS: {why}")), "{kind}: {told}");
+        assert!(told.contains(&format!("scenario {kind} seed 1 switch 3")), "{kind}: {told}");
+    }
+}
+
+/// Two threads of which one parks for ever, two that lock each other out, one that spins, one that panics, and one that
+/// spawns one that panics.
+fn broken(kind: &str) -> Vec<Body> {
+    let locks = Arc::new([(); 2].map(|()| schedule::Mutex::new(())));
+    let kind: Arc<str> = kind.into();
+    let body = |number: usize| -> Body {
+        let (kind, locks) = (kind.clone(), locks.clone());
+        Box::new(move || match (&*kind, number) {
+            ("parks", 0) => schedule::park(),
+            ("locks", _) => {
+                for _ in 0..100 {
+                    let first = schedule::lock(&locks[number]);
+                    let second = schedule::lock(&locks[1 - number]);
+                    assert!(!holds_no_lock());
+                    drop((first, second));
+                    assert!(holds_no_lock());
+                }
+            }
+            ("spins", 0) => loop {
+                schedule::spin_hint();
+            },
+            ("panics", 1) => resume_unwind(Box::new("on purpose")),
+            ("spawns", 0) => drop(schedule::spawn(|| resume_unwind(Box::new("on purpose")))),
+            _ => pass_on(),
+        })
+    };
+    vec![body(0), body(1)]
 }
 
 fn asked(name: &str) -> Option<String> {
@@ -133,10 +187,12 @@ impl Scenario {
     }
 
     fn play_many(&self, first: u64, each: u64) {
+        let again = self.play(first, SWITCHES[0]);
         let (mut sum, mut most) = (0, (0, 0, 0));
         for switch in SWITCHES {
             for seed in first..first + each {
                 let steps = self.play(seed, switch);
+                assert!((seed, switch) != (first, SWITCHES[0]) || steps == again, "{}: a seed plays again", self.name);
                 sum += steps;
                 most = most.max((steps, seed, switch));
             }
@@ -390,6 +446,7 @@ const SCENARIOS: &[Scenario] = &[
     Scenario { name: "seasons", trial: None, build: seasons },
     Scenario { name: "single_rows", trial: None, build: single_rows },
     Scenario { name: "widens", trial: None, build: widens },
+    Scenario { name: "narrows", trial: None, build: narrows },
     Scenario { name: "idle_crowd", trial: None, build: idle_crowd },
     Scenario { name: "lent_out", trial: None, build: lent_out },
     Scenario { name: "lent_drops", trial: None, build: lent_drops },
@@ -419,6 +476,7 @@ const SCENARIOS: &[Scenario] = &[
     Scenario { name: "task_timeouts", trial: None, build: task_timeouts },
     Scenario { name: "eager_tasks", trial: None, build: eager_tasks },
     Scenario { name: "wakers_sync", trial: None, build: wakers_sync },
+    Scenario { name: "threads_end", trial: None, build: threads_end },
     Scenario { name: "storm_tasks", trial: None, build: storm_tasks },
 ];
 
@@ -805,6 +863,41 @@ fn widens(play: &mut Play) {
     }
 }
 
+/// Many wait, and then few: the table is made wider, and after some seasons narrower, while others ask for its slots.
+fn narrows(play: &mut Play) {
+    let hub = hub(8, 1, 2);
+    let ledger = play.ledger();
+    let stop = Signal::new();
+    for _ in 0..5 {
+        let (idle, ended) = (hub.channel::<usize>(), stop.clone());
+        play.thread(move || assert_eq!(choose![idle.recv_evt().wrap(Some), ended.evt().wrap(|()| None)].sync(), None));
+    }
+    let (ours, theirs) = both(hub.channel::<Value>());
+    let (sender, receiver) = both(ledger);
+    play.thread(move || {
+        for n in 0..50 {
+            sender.send(&ours);
+            if n == 3 {
+                stop.fire();
+            }
+        }
+    });
+    play.thread(move || {
+        for _ in 0..50 {
+            receiver.recv_evt(&theirs).sync();
+        }
+    });
+    let known = hub.clone();
+    play.thread(move || {
+        let idle = channels(&hub, 2);
+        for _ in 0..12 {
+            choose(idle.iter().map(|channel| channel.recv_evt())).poll();
+            dawdle(20);
+        }
+    });
+    play.check(move || assert!(known.stats().turns > 10));
+}
+
 /// Pairs that can meet each other only, beside some who wait for what never comes.
 fn idle_crowd(play: &mut Play) {
     let hub = hub(play.one_of(&[2, 3]), 2, 2);
@@ -892,7 +985,7 @@ fn lent_drops(play: &mut Play) {
 fn first_come(play: &mut Play) {
     const WAITING: usize = 5;
     let hub = hub(play.one_of(&[2, 3, 4, 8]), 3, 2);
-    let (sends, kind) = (play.seed / 4 % 2 == 0, play.seed / 8 % 4);
+    let (sends, kind, polls) = (play.seed / 4 % 2 == 0, play.seed / 8 % 4, play.seed / 32 % 2 == 0);
     let channel = hub.channel::<usize>();
     let turn = Arc::new(AtomicUsize::new(0));
     // each begins when those before it wait
@@ -923,9 +1016,11 @@ fn first_come(play: &mut Play) {
     play.thread(move || {
         my_turn(&turn, WAITING);
         for number in 0..WAITING {
-            match sends {
-                true => assert_eq!(channel.recv(), number, "who waits longest is met first"),
-                false => channel.send(number),
+            match (sends, polls) {
+                (true, false) => assert_eq!(channel.recv(), number, "who waits longest is met first"),
+                (true, true) => assert_eq!(channel.try_recv(), Some(number), "somebody waits"),
+                (false, false) => channel.send(number),
+                (false, true) => assert_eq!(channel.try_send(number), Ok(()), "somebody waits"),
             }
             wait_for_quiet();
         }
@@ -1738,21 +1833,30 @@ fn eager_tasks(play: &mut Play) {
     });
 }
 
-/// Wakers that sync: they take part in what the thread that calls them is taking part in.
+/// Wakers that sync, and such that panic: they take part in what the thread that calls them is taking part in.
 fn wakers_sync(play: &mut Play) {
     struct Sends {
         log: Channel<usize>,
         thread: schedule::Thread,
-        waits: bool,
+        kind: usize,
     }
     impl Wake for Sends {
         fn wake(self: Arc<Self>) {
             in_no_lock();
-            match self.waits {
-                true => self.log.send(1),
-                false => drop(self.log.try_send(1)),
+            if self.kind == 0 {
+                self.log.send(1);
+            } else if self.kind == 1 {
+                let _ = self.log.try_send(1);
             }
             self.thread.unpark();
+            if self.kind == 2 {
+                panics_here();
+            }
+        }
+    }
+    impl Drop for Sends {
+        fn drop(&mut self) {
+            in_no_lock();
         }
     }
     let hub = hub(play.one_of(&[2, 3, 4]), 2, play.one_of(&[1, 2]));
@@ -1760,16 +1864,15 @@ fn wakers_sync(play: &mut Play) {
     let channels: Vec<Channel<Value>> = (0..3).map(|_| hub.channel()).collect();
     let (log, log_too) = both(hub.channel::<usize>());
     let (stop, ended) = both(Signal::new());
-    let left = Arc::new(AtomicUsize::new(2));
-    for n in 0..2 {
+    let left = Arc::new(AtomicUsize::new(3));
+    for kind in 0..3 {
         let (channels, ledger, log, left, stop) =
             (channels.clone(), ledger.clone(), log.clone(), left.clone(), stop.clone());
         play.thread(move || {
             for _ in 0..2 {
                 let wide = choose(channels.iter().map(|channel| ledger.recv_evt(channel)));
                 let mut task = std::pin::pin!(wide.wait());
-                let waker =
-                    Waker::from(Arc::new(Sends { log: log.clone(), thread: schedule::current(), waits: n == 0 }));
+                let waker = Waker::from(Arc::new(Sends { log: log.clone(), thread: schedule::current(), kind }));
                 while task.as_mut().poll(&mut Context::from_waker(&waker)).is_pending() {
                     schedule::park();
                 }
@@ -1781,16 +1884,54 @@ fn wakers_sync(play: &mut Play) {
     }
     let (ours, sender) = (channels.clone(), ledger.clone());
     play.thread(move || {
-        for n in [0, 2] {
+        for n in [0, 2, 1] {
             sender.send(&ours[n]);
         }
     });
     play.thread(move || {
-        for _ in 0..2 {
+        for _ in 0..3 {
             choose(channels.iter().map(|channel| ledger.send_evt(channel))).sync();
         }
     });
     play.thread(move || while choose![log_too.recv_evt().wrap(|_| true), ended.evt().wrap(|()| false)].sync() {});
+}
+
+/// Threads that sync while their thread-locals are dropped, those of the crate too.
+fn threads_end(play: &mut Play) {
+    struct Syncs(Channel<usize>);
+    impl Drop for Syncs {
+        fn drop(&mut self) {
+            self.0.send(7);
+            timeout(Duration::ZERO).sync();
+        }
+    }
+    thread_local!(static AT_END: RefCell<Option<Syncs>> = const { RefCell::new(None) });
+    let hub = hub(play.one_of(&[2, 3]), 2, 2);
+    let ledger = play.ledger();
+    let (values, ends) = (hub.channel::<Value>(), hub.channel::<usize>());
+    for n in 0..2 {
+        let (values, ends, ledger) = (values.clone(), ends.clone(), ledger.clone());
+        play.thread(move || {
+            let at_end = || AT_END.set(Some(Syncs(ends.clone())));
+            // before the crate's own thread-locals, or behind them
+            if n == 0 {
+                at_end();
+            }
+            ledger.send(&values);
+            block_on(ledger.send_evt(&values).wait());
+            if n == 1 {
+                at_end();
+            }
+        });
+    }
+    play.thread(move || {
+        for _ in 0..4 {
+            ledger.recv_evt(&values).sync();
+        }
+        for _ in 0..2 {
+            assert_eq!(ends.recv(), 7);
+        }
+    });
 }
 
 /// A storm of threads, tasks, and tasks that are dropped.

@@ -48,23 +48,24 @@ impl Lines {
 
 impl HubCore {
     /// Whether the row of an entry is no longer the one in its slot.
-    fn is_stale(&self, entry: &Entry) -> bool {
+    fn is_stale(&self, entry: &Entry, season: u64) -> bool {
         let slot = &self.slots[entry.row.thread as usize].0;
         let is_newest = || u32::from(slot.next.load(SeqCst)) == entry.row.sync + 1;
-        entry.season != self.season.load(SeqCst) || !slot.is_busy.load(SeqCst) || !is_newest()
+        entry.season != season || !slot.is_busy.load(SeqCst) || !is_newest()
     }
 
-    fn drop_stale(&self, line: &mut VecDeque<Entry>) {
-        while line.front().is_some_and(|entry| self.is_stale(entry)) {
+    fn drop_stale(&self, line: &mut VecDeque<Entry>, season: u64) {
+        while line.front().is_some_and(|entry| self.is_stale(entry, season)) {
             line.pop_front();
         }
     }
 
     /// The age of the first in the table whom the want meets, and its slot.
     pub(super) fn first_in_line(&self, want: &Want) -> Option<(u64, usize)> {
+        let season = self.season.load(SeqCst);
         let mut line = self.lines.line(want)?;
         let facing = line.side(!want.is_send);
-        self.drop_stale(facing);
+        self.drop_stale(facing, season);
         facing.front().map(|entry| (entry.age, entry.row.thread as usize))
     }
 
@@ -79,12 +80,12 @@ impl HubCore {
             };
             if first.is_none() {
                 let facing = line.side(!want.is_send);
-                self.drop_stale(facing);
+                self.drop_stale(facing, season);
                 first = facing.front().map(|entry| entry.row.thread);
             }
             if waits {
                 let own = line.side(want.is_send);
-                self.drop_stale(own);
+                self.drop_stale(own, season);
                 // who was put out and brought in is older than others that stand there
                 let behind = own.iter().rposition(|entry| entry.age <= age).map_or(0, |at| at + 1);
                 own.insert(behind, Entry { row, age, season });

@@ -2,7 +2,7 @@
 //! its life, where one is left when it is made. All others are lent one while a row that offers on them stands in the
 //! table.
 
-use super::HubCore;
+use super::{HubCore, HubRef};
 use super::lines::NUMBERS;
 use crate::record::{Job, Want};
 use crate::sync::atomic::{AtomicU32, AtomicU64, Ordering::SeqCst};
@@ -16,7 +16,7 @@ const KEPT: usize = 192;
 const KEPT: usize = 246;
 
 pub(crate) struct Port {
-    pub(crate) hub: Arc<HubCore>,
+    pub(crate) hub: HubRef,
     /// Its number among all channels of the hub.
     pub(crate) id: u64,
     /// Its number in the table for life, if it has one.
@@ -74,14 +74,16 @@ fn is_free(holder: Option<&Weak<Port>>, number: u8) -> bool {
     }
 }
 
-impl HubCore {
+impl HubRef {
     /// A new channel.
-    pub(crate) fn port(self: &Arc<Self>) -> Arc<Port> {
+    pub(crate) fn port(&self) -> Arc<Port> {
         let kept = lock(&self.numbers.kept).pop();
         let id = self.numbers.ids.fetch_add(1, SeqCst);
         Arc::new(Port { hub: self.clone(), id, kept, lent: AtomicU32::new(0) })
     }
+}
 
+impl HubCore {
     /// Gives a number to each want from there on that a row shows. Where none is left for one, no number was lent.
     pub(super) fn lend(&self, job: &mut Job, from: usize) -> bool {
         let to = from + job.count(from);

@@ -1,8 +1,8 @@
 //! How a sync is shown in the table: a row of it is drafted, opened and searched, window after window, and whom it may meet
 //! on the bench is brought in.
 
-use super::{HubCore, Visit, WINDOW, answer, pause};
-use crate::record::{Pick, Place, Record, Tail, Want};
+use super::{HubCore, Visit, WINDOW, answer, grant, pause, slots};
+use crate::record::{Answered, Pick, Place, Record, Tail, Want};
 use crate::sync::atomic::Ordering::SeqCst;
 use crate::sync::{self, lock};
 use crate::table::{Found, OFFERS, Offer, Pass, Row};
@@ -21,8 +21,8 @@ struct Guest<'g> {
 
 /// What came of showing a sync in the table.
 enum Shown {
-    /// It has this answer.
-    Committed(Pick),
+    /// It has its answer, which is here if its own thread has shown it.
+    Committed(Option<Answered>),
     /// It waits.
     Left,
     /// It is shown by another thread, or has its answer.
@@ -50,9 +50,9 @@ enum Seat {
 
 impl HubCore {
     /// Shows a sync of this thread in the table, all its sends and receives, so many at a time as a row has room for. Its
-    /// answer, if it is there at once.
-    pub(crate) fn enter(&self, record: &Arc<Record>, ticket: u64, wants: usize) -> Option<Pick> {
-        if self.is_crowded() && self.waits_on_bench(record, ticket) {
+    /// answer, if it is there at once: where it does not wait it always is.
+    pub(crate) fn enter(&self, record: &Arc<Record>, ticket: u64, wants: usize, waits: bool) -> Option<Answered> {
+        if waits && self.is_crowded() && self.waits_on_bench(record, ticket) {
             return record.settled();
         }
         let mut visit = Visit::new(self);
@@ -67,12 +67,33 @@ impl HubCore {
                 false => self.show(guest, 0, &mut visit),
             };
             match shown {
-                Shown::Committed(pick) => return Some(pick),
+                Shown::Committed(answered) => return answered,
                 Shown::Left => self.meet_bench(guest, want, &mut visit),
                 Shown::Stale => {}
             }
         }
-        record.settled()
+        if waits { record.settled() } else { self.end_at_once(guest) }
+    }
+
+    /// The answer of a sync that does not wait: its always, where nobody has met it.
+    fn end_at_once(&self, guest: Guest<'_>) -> Option<Answered> {
+        let mut pass = self.any_pass(slots::hint());
+        let mut job = lock(&guest.record.job);
+        let pick = match (job.place, job.tail) {
+            (Place::Table { row, from }, _) => {
+                grant(&mut pass, row, job.count(from));
+                let pick = answer(&mut pass, row, from, &job);
+                self.leave(&mut job, row, from);
+                pick
+            }
+            (Place::Out, Tail::Always(base)) => {
+                self.bench.remove(&mut job);
+                Pick { base, number: 0 }
+            }
+            (Place::Done(pick), _) => pick,
+            (Place::Out | Place::Idle, _) => return None,
+        };
+        Some(job.end(pick))
     }
 
     /// One row of the sync, with the wants of one window, is drafted, opened and searched. Where it is committed its
@@ -96,7 +117,7 @@ impl HubCore {
                     continue;
                 }
             };
-            match search(&mut pass, &seated, &offers) {
+            match self.search(&mut pass, &seated, &offers) {
                 Found::Left => return Shown::Left,
                 Found::Met(other) => {
                     if let Some(partner) = self.settle(&mut pass, other) {
@@ -151,6 +172,26 @@ impl HubCore {
         }
     }
 
+    /// The row is drafted, opened and searched, until it is left or committed. Where it does not wait, and nobody is on the
+    /// bench, it is granted its last offer in the end.
+    fn search(&self, pass: &mut Pass, seated: &Seated, offers: &[Offer; OFFERS]) -> Found {
+        let mut found = pass.begin(seated.row, &offers[..seated.offers], seated.first).expect("a held fresh row");
+        loop {
+            match (found, seated.always) {
+                (Found::Again, _) => {
+                    pause();
+                    found = pass.search(seated.row).expect("a held opened row");
+                }
+                (Found::Left, Some(last)) if self.bench.is_empty() => {
+                    // where it is late a partner has committed it
+                    pass.grant(seated.row, last).expect("a row of the table");
+                    return Found::Already;
+                }
+                _ => return found,
+            }
+        }
+    }
+
     /// What came of a row that its search did not leave. None where it was put out before it had looked everywhere.
     fn outcome(&self, pass: &mut Pass, guest: Guest<'_>, row: Row) -> Option<Shown> {
         let mut job = lock(&guest.record.job);
@@ -160,13 +201,12 @@ impl HubCore {
             Place::Table { row: now, from } if now == row => {
                 let pick = answer(pass, row, from, &job);
                 self.leave(&mut job, row, from);
-                job.place = if guest.is_own { Place::Idle } else { Place::Done(pick) };
-                Some(Shown::Committed(pick))
+                job.place = Place::Done(pick);
+                Some(Shown::Committed(guest.is_own.then(|| job.end(pick))))
             }
             // by its partner
             Place::Done(pick) if guest.is_own => {
-                job.place = Place::Idle;
-                Some(Shown::Committed(pick))
+                Some(Shown::Committed(Some(job.end(pick))))
             }
             _ => Some(Shown::Stale),
         }
@@ -308,22 +348,3 @@ impl HubCore {
     }
 }
 
-/// The row is drafted, opened and searched, until it is left or committed. Where it does not wait it is granted its last
-/// offer in the end.
-fn search(pass: &mut Pass, seated: &Seated, offers: &[Offer; OFFERS]) -> Found {
-    let mut found = pass.begin(seated.row, &offers[..seated.offers], seated.first).expect("a held fresh row");
-    loop {
-        match (found, seated.always) {
-            (Found::Again, _) => {
-                pause();
-                found = pass.search(seated.row).expect("a held opened row");
-            }
-            (Found::Left, Some(last)) => {
-                // where it is late a partner has committed it
-                pass.grant(seated.row, last).expect("a row of the table");
-                return Found::Already;
-            }
-            _ => return found,
-        }
-    }
-}
