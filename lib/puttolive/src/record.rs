@@ -5,8 +5,8 @@ use crate::sync::atomic::{AtomicU32, AtomicU64, Ordering::SeqCst};
 use crate::sync::{self, Mutex, Thread, lock};
 use crate::table::{OFFERS, Offer, Row};
 use std::cell::Cell;
-use std::panic::{AssertUnwindSafe, catch_unwind};
 use std::mem;
+use std::panic::{AssertUnwindSafe, catch_unwind};
 use std::sync::Arc;
 use std::task::{Context, Waker};
 use std::time::{Duration, Instant};
@@ -186,17 +186,16 @@ impl Record {
         kept.unwrap_or_else(|| Record::new(Sleeper::Task(Mutex::new(None))))
     }
 
-    /// Keeps the record of a task's sync that is over for the next one, if nobody else has it.
+    /// A task's sync is over: its record is kept for the next one, if nobody else has it.
     pub(crate) fn keep(mut record: Arc<Record>) {
-        if Arc::get_mut(&mut record).is_none() {
-            return;
-        }
         if let Sleeper::Task(waker) = &record.sleeper {
-            // code of the user drops a waker: under no lock
+            // code of the user drops a waker: here, since whoever else has the record may drop it under a lock
             let waker = lock(waker).take();
             drop(waker);
         }
-        let _ = KEPT.try_with(|kept| kept.set(Some(record)));
+        if Arc::get_mut(&mut record).is_some() {
+            let _ = KEPT.try_with(|kept| kept.set(Some(record)));
+        }
     }
 
     fn new(sleeper: Sleeper) -> Arc<Record> {

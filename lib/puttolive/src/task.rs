@@ -95,6 +95,7 @@ impl<E: Event> Waits<E> {
         }
         drop(self.timer);
         self.forcing.end(&self.record, answered);
+        Record::keep(self.record);
     }
 }
 

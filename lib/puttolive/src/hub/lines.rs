@@ -43,7 +43,6 @@ impl Lines {
     fn line(&self, want: &Want) -> Option<MutexGuard<'_, Line>> {
         want.number.map(|number| lock(&self.lines[usize::from(number)]))
     }
-
 }
 
 impl HubCore {

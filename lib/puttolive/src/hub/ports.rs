@@ -2,8 +2,8 @@
 //! its life, where one is left when it is made. All others are lent one while a row that offers on them stands in the
 //! table.
 
-use super::{HubCore, HubRef};
 use super::lines::NUMBERS;
+use super::{HubCore, HubRef};
 use crate::record::{Job, Want};
 use crate::sync::atomic::{AtomicU32, AtomicU64, Ordering::SeqCst};
 use crate::sync::{Mutex, lock};

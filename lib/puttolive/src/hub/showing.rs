@@ -205,9 +205,7 @@ impl HubCore {
                 Some(Shown::Committed(guest.is_own.then(|| job.end(pick))))
             }
             // by its partner
-            Place::Done(pick) if guest.is_own => {
-                Some(Shown::Committed(Some(job.end(pick))))
-            }
+            Place::Done(pick) if guest.is_own => Some(Shown::Committed(Some(job.end(pick)))),
             _ => Some(Shown::Stale),
         }
     }
@@ -267,29 +265,33 @@ impl HubCore {
         }
     }
 
-    /// Who waits longest for the sync's first want, in the table or on the bench: from the bench he is brought in.
+    /// Who waits longest for the first want of the sync that anybody waits for, in the table or on the bench: from the bench
+    /// he is brought in.
     fn first_of_all<'a>(&'a self, record: &Arc<Record>, ticket: u64, visit: &mut Visit<'a>) -> Option<Arc<Record>> {
-        let (on_bench, in_table) = {
-            let job = lock(&record.job);
-            let want = job.wants.first()?;
-            (self.bench.oldest(want), self.first_in_line(want))
+        let waiting = |(number, want)| match (self.bench.oldest(want), self.first_in_line(want)) {
+            (None, None) => None,
+            (on_bench, in_table) => Some((number, on_bench, in_table)),
         };
+        let (want, on_bench, in_table) = lock(&record.job).wants.iter().enumerate().find_map(waiting)?;
         match (on_bench, in_table) {
             (Some(age), Some((older, slot))) if older <= age => self.slots[slot].0.guest(),
-            (Some(_), _) => self.bring_oldest(record, ticket, visit),
+            (Some(_), _) => self.bring_oldest(record, ticket, want, visit),
             (None, Some((_, slot))) => self.slots[slot].0.guest(),
             (None, None) => None,
         }
     }
 
-    /// Brings in the oldest on the bench whom the first wants might meet: who then waits in the table.
-    fn bring_oldest<'a>(&'a self, record: &Arc<Record>, ticket: u64, visit: &mut Visit<'a>) -> Option<Arc<Record>> {
-        if !self.may_meet_bench(record, 0) {
-            return None;
-        }
+    /// Brings in the oldest on the bench whom the want meets: who then waits in the table.
+    fn bring_oldest<'a>(
+        &'a self,
+        record: &Arc<Record>,
+        ticket: u64,
+        want: usize,
+        visit: &mut Visit<'a>,
+    ) -> Option<Arc<Record>> {
         visit.take_room();
         let last = self.bench.last();
-        let partner = (0..WINDOW).find_map(|want| self.bench.partner(record, ticket, want, 0, last))?;
+        let partner = self.bench.partner(record, ticket, want, 0, last)?;
         let guest = Guest { record: &partner.record, ticket: partner.ticket, stays: Some(record), is_own: false };
         match self.bring_in(guest, partner.want, visit) {
             Shown::Committed(_) => return None,
@@ -347,4 +349,3 @@ impl HubCore {
         }
     }
 }
-
