@@ -181,6 +181,32 @@ fn numbers_are_used_again() {
     });
 }
 
+/// A row takes as many numbers as it needs, or none: those that it found where it needs more are lent to others.
+#[test]
+fn numbers_are_lent_all_or_none() {
+    let hub = Hub::audited(Config::default());
+    let _kept: Vec<Channel<u32>> = (0..192).map(|_| hub.channel()).collect();
+    let group = |width: usize| (0..width).map(|_| hub.channel()).collect::<Vec<Channel<u32>>>();
+    let any = |channels: &[Channel<u32>]| choose(channels.to_vec().into_iter().map(Channel::into_recv_evt));
+    within(|| {
+        let mut polled = Vec::new();
+        for _ in 0..40 {
+            // 60 of 63 numbers are in use
+            let stop = Signal::new();
+            thread::scope(|scope| {
+                for width in [7, 7, 7, 7, 7, 7, 7, 7, 4] {
+                    let (channels, stop) = (group(width), &stop);
+                    scope.spawn(move || choose![any(&channels).wrap(drop), stop.evt()].sync());
+                }
+                thread::sleep(Duration::from_millis(5));
+                polled.push(group(7));
+                assert_eq!(any(&polled[polled.len() - 1]).poll(), None);
+                stop.fire();
+            });
+        }
+    });
+}
+
 #[test]
 fn threads_that_end_leave_nothing() {
     let hub = Hub::audited(Config { slots: 6, rows: 4, passes: 2, spin: 10 });

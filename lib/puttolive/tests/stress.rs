@@ -5,6 +5,7 @@ mod common;
 
 use common::{Count, Counted, Dice, asked, within};
 use puttolive::*;
+use std::cell::RefCell;
 use std::collections::HashSet;
 use std::sync::atomic::{AtomicU64, Ordering::SeqCst};
 use std::sync::{Arc, Mutex, MutexGuard, PoisonError, mpsc};
@@ -317,56 +318,75 @@ fn ring() {
 const SHARE: u64 = 400;
 
 /// Of many threads that do the same on one channel all the time, each has its turn: between three quarters and five
-/// quarters of its share. A busy machine keeps some of them from running for long, so it is asked up to six times.
+/// quarters of its share. A busy machine keeps some of them from running for long: what `std`'s channel, which serves in
+/// order too, does not reach then is not asked.
 fn shares(threads: usize, config: Config, send: bool) {
     let is_fair = |(least, most)| SHARE * 3 / 4 <= least && most <= SHARE * 5 / 4;
-    let mut told = (0..6).map(|_| least_and_most(threads, config, send));
-    assert!(told.any(is_fair), "{threads} threads, send {send}, {config:?}");
+    let mut failed = 0;
+    for _ in 0..10 {
+        let (least, most) = of_hub(threads, config, send);
+        println!("{threads} threads, send {send}, {config:?}: of {SHARE} each the least {least}, the most {most}");
+        if is_fair((least, most)) {
+            return;
+        }
+        failed += u32::from(is_fair(of_std(threads)));
+        assert!(failed < 3, "{threads} threads, send {send}, {config:?}: {least} to {most} of {SHARE}");
+    }
+    println!("the machine is too busy to ask");
 }
 
-/// How often at least and at most each of the threads has its turn, from when all of them have begun.
-fn least_and_most(threads: usize, config: Config, send: bool) -> (u64, u64) {
+fn of_hub(threads: usize, config: Config, send: bool) -> (u64, u64) {
     let hub = Hub::audited(config);
     let channel: Channel<usize> = hub.channel();
     let (stop, known) = (Signal::new(), hub.clone());
+    let turn = |number: usize| match send {
+        true => choose![channel.send_evt(number).wrap(|()| true), stop.evt().wrap(|()| false)].sync(),
+        false => choose![channel.recv_evt().wrap(|_| true), stop.evt().wrap(|()| false)].sync(),
+    };
+    let meet = || match send {
+        true => drop(channel.recv()),
+        false => channel.send(0),
+    };
+    let tell = move || format!("{threads} have turns, {config:?} {:?}", known.stats());
+    within(tell, || least_and_most(threads, &turn, meet, || stop.fire()))
+}
+
+fn of_std(threads: usize) -> (u64, u64) {
+    let (sender, receiver) = mpsc::sync_channel(0);
+    let receiver = RefCell::new(Some(receiver));
+    let meet = || drop(receiver.borrow().as_ref().expect("it is there").recv());
+    let tell = move || format!("{threads} have turns by std's channel");
+    within(tell, || least_and_most(threads, &|number| sender.send(number).is_ok(), meet, || drop(receiver.take())))
+}
+
+/// How often at least and at most each of the threads has its turn, from when all of them have begun.
+fn least_and_most(
+    threads: usize,
+    turn: &(impl Fn(usize) -> bool + Sync),
+    meet: impl Fn(),
+    stop: impl FnOnce(),
+) -> (u64, u64) {
     let turns: Vec<AtomicU64> = (0..threads).map(|_| AtomicU64::new(0)).collect();
-    let counts: Vec<u64> = within(
-        move || format!("{threads} have turns, {config:?} {:?}", known.stats()),
-        || {
-            thread::scope(|scope| {
-                for number in 0..threads {
-                    let (channel, stop, turns) = (&channel, &stop, &turns);
-                    let turn = move || match send {
-                        true => choose![channel.send_evt(number).wrap(|()| true), stop.evt().wrap(|()| false)].sync(),
-                        false => choose![channel.recv_evt().wrap(|_| true), stop.evt().wrap(|()| false)].sync(),
-                    };
-                    scope.spawn(move || {
-                        while turn() {
-                            if !send {
-                                turns[number].fetch_add(1, SeqCst);
-                            }
-                        }
-                    });
+    let counts = || turns.iter().map(|count| count.load(SeqCst)).collect::<Vec<_>>();
+    thread::scope(|scope| {
+        for number in 0..threads {
+            let count = &turns[number];
+            scope.spawn(move || {
+                while turn(number) {
+                    count.fetch_add(1, SeqCst);
                 }
-                let meet = || match send {
-                    true => drop(turns[channel.recv()].fetch_add(1, SeqCst)),
-                    false => channel.send(0),
-                };
-                let counts = || turns.iter().map(|count| count.load(SeqCst)).collect::<Vec<_>>();
-                while counts().contains(&0) {
-                    meet();
-                }
-                let before = counts();
-                (0..SHARE * threads as u64).for_each(|_| meet());
-                let after = counts();
-                stop.fire();
-                after.iter().zip(before).map(|(after, before)| after - before).collect()
-            })
-        },
-    );
-    let (least, most) = (*counts.iter().min().unwrap(), *counts.iter().max().unwrap());
-    println!("{threads} threads, send {send}, {config:?}: of {SHARE} each the least {least}, the most {most}");
-    (least, most)
+            });
+        }
+        while counts().contains(&0) {
+            meet();
+        }
+        let before = counts();
+        (0..SHARE * threads as u64).for_each(|_| meet());
+        let after = counts();
+        stop();
+        let had = || after.iter().zip(&before).map(|(after, before)| after - before);
+        (had().min().unwrap_or(0), had().max().unwrap_or(0))
+    })
 }
 
 #[test]
