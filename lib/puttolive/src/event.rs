@@ -118,7 +118,8 @@ pub trait Event: Sized {
         EitherOr { left: self, right: other }
     }
 
-    /// As a value of a type that does not tell how it was made: to be put into a list, a message or a struct.
+    /// As a value of a type that does not tell how it was made: to be put into a list, a message or a struct. What a
+    /// function gives as `impl Event` does not tell that it may go to another thread: let the function box it.
     ///
     /// ```
     /// use puttolive::*;

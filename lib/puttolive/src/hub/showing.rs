@@ -235,6 +235,9 @@ impl HubCore {
         if job.ticket != ticket || !matches!((job.place, job.tail), (Place::Out, Tail::Alarms)) {
             return false;
         }
+        if job.wants.iter().any(|want| self.shown.may_meet(want)) {
+            return false;
+        }
         // rule 2: first it stands there, then it looks
         self.bench.put(&mut job, record);
         let is_met = |want: &Want| self.shown.may_meet(want) || self.bench.has_partner(record, want);
