@@ -49,7 +49,6 @@ pub trait Event: Sized {
         let pick = answered.pick;
         ready.settle(pick);
         forcing.end_here(record, answered);
-        drop(forcing);
         ready.finish(pick)
     }
 

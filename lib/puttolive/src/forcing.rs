@@ -2,7 +2,7 @@
 
 use crate::hub::{HubRef, Port};
 use crate::latch::{self, Latch};
-use crate::record::{Answered, Pick, Record, Want};
+use crate::record::{Answered, Pick, Record, SHORT_LOOKS, Want};
 use crate::sync;
 use std::cell::Cell;
 use std::mem;
@@ -10,28 +10,34 @@ use std::ops::Range;
 use std::sync::Arc;
 use std::time::Instant;
 
-/// The lists of a sync, kept by the thread for the next one, so that a sync takes no memory.
-#[derive(Default)]
-struct Lists {
-    wants: Vec<Want>,
-    /// Latches, and the base event that each is.
-    latches: Vec<(Arc<Latch>, u32)>,
-    /// Where the sync stands in the list of each latch.
-    entries: Vec<usize>,
-}
-
 thread_local! {
-    static LISTS: Cell<Option<Lists>> = const { Cell::new(None) };
+    /// What this thread collects in, but while it does so: a guard may sync. It is kept, so that a sync takes no memory.
+    static FORCING: Cell<Option<Box<Forcing>>> = const { Cell::new(None) };
     /// The record of this thread's syncs, but while one runs: a waker may run another in it.
     static RECORD: Cell<Option<Arc<Record>>> = const { Cell::new(None) };
+}
+
+/// Where more stand in a line, a thread lets nobody else run before it sleeps.
+const CROWD: usize = 8;
+
+/// How a sync waits.
+pub(crate) struct Waiting {
+    pub(crate) ticket: u64,
+    /// How many wait in line with it.
+    crowd: usize,
 }
 
 /// What a sync collects while it runs guards, and what it waits by. Dropped before the sync was performed (a guard has
 /// panicked), it fires the nacks.
 #[doc(hidden)]
+#[derive(Default)]
 pub struct Forcing {
     bases: u32,
-    lists: Lists,
+    wants: Vec<Want>,
+    /// Latches, and the base event that each is.
+    latches: Vec<(Arc<Latch>, u32)>,
+    /// Where the sync stands in the list of each latch.
+    entries: Vec<usize>,
     hub: Option<HubRef>,
     deadline: Option<(Instant, u32)>,
     always: Option<u32>,
@@ -40,9 +46,8 @@ pub struct Forcing {
 }
 
 impl Forcing {
-    pub(crate) fn new() -> Forcing {
-        let lists = LISTS.try_with(Cell::take).ok().flatten().unwrap_or_default();
-        Forcing { bases: 0, lists, hub: None, deadline: None, always: None, nacks: Vec::new() }
+    pub(crate) fn new() -> Box<Forcing> {
+        FORCING.try_with(Cell::take).ok().flatten().unwrap_or_default()
     }
 
     // ---- what events offer
@@ -64,7 +69,7 @@ impl Forcing {
             Some(hub) => assert!(hub.is(&port.hub), "channels of two hubs in one choice"),
         }
         let base = self.base();
-        self.lists.wants.push(port.want(base, is_send, value));
+        self.wants.push(port.want(base, is_send, value));
         base
     }
 
@@ -82,7 +87,7 @@ impl Forcing {
 
     pub(crate) fn latch(&mut self, latch: Arc<Latch>) {
         let base = self.base();
-        self.lists.latches.push((latch, base));
+        self.latches.push((latch, base));
     }
 
     /// Adds a nack. Its scope is empty until it is known: so a panic fires it.
@@ -104,32 +109,34 @@ impl Forcing {
         let record = own.unwrap_or_else(Record::of_this_thread);
         let answered = match self.start(&record) {
             Ok(answered) => answered,
-            Err(ticket) => self.sleep(&record, ticket),
+            Err(waiting) => self.sleep(&record, waiting),
         };
         (record, answered)
     }
 
-    /// Begins a sync: its answer, or the ticket under which it waits.
-    pub(crate) fn start(&mut self, record: &Arc<Record>) -> Result<Answered, u64> {
-        let fired = self.lists.latches.iter().find(|(latch, _)| latch.has_fired()).map(|(_, base)| *base);
+    /// Begins a sync: its answer, or how it waits.
+    pub(crate) fn start(&mut self, record: &Arc<Record>) -> Result<Answered, Waiting> {
+        let fired = self.latches.iter().find(|(latch, _)| latch.has_fired()).map(|(_, base)| *base);
         let is_over = |(time, _): &(Instant, u32)| sync::now() >= *time;
         let always = fired.or(self.always).or_else(|| self.deadline.filter(is_over).map(|(_, base)| base));
         if let (None, Some(base)) = (&self.hub, always) {
-            return Ok(Answered { pick: Pick { base, number: 0 }, wants: Vec::new() });
+            return Ok(Answered { pick: Pick { base, number: 0 }, wants: mem::take(&mut self.wants) });
         }
-        let wants = self.lists.wants.len();
+        let wants = self.wants.len();
         // in another order each time, so that none comes always first
         if wants > 1 {
-            self.lists.wants.rotate_left(sync::dice() as usize % wants);
+            self.wants.rotate_left(sync::dice() as usize % wants);
         }
-        let ticket = record.begin(mem::take(&mut self.lists.wants), always);
+        let ticket = record.begin(mem::take(&mut self.wants), always);
         let hub = self.hub.as_ref();
-        if let Some(answered) = hub.and_then(|hub| hub.enter(record, ticket, wants, always.is_none())) {
-            return Ok(answered);
-        }
-        let entries = self.lists.latches.iter().map(|(latch, base)| latch.enter(record, ticket, *base, hub));
-        self.lists.entries.extend(entries);
-        Err(ticket)
+        let crowd = match hub.map(|hub| hub.enter(record, ticket, wants, always.is_none())) {
+            Some(Ok(answered)) => return Ok(answered),
+            Some(Err(others)) => others,
+            None => 0,
+        };
+        let entries = self.latches.iter().map(|(latch, base)| latch.enter(record, ticket, *base, hub));
+        self.entries.extend(entries);
+        Err(Waiting { ticket, crowd })
     }
 
     /// Answers the sync by a base event that stands in no table, where it has no answer yet.
@@ -142,36 +149,42 @@ impl Forcing {
         self.deadline.map(|(time, base)| (time, base, self.hub.clone()))
     }
 
-    fn sleep(&mut self, record: &Arc<Record>, ticket: u64) -> Answered {
+    fn sleep(&mut self, record: &Arc<Record>, Waiting { ticket, crowd }: Waiting) -> Answered {
         let spin = self.hub.as_ref().map_or(0, |hub| hub.config.spin);
+        // of many in line, who lets others run has his turn before all who sleep
+        let looks = if crowd > CROWD { spin.min(SHORT_LOOKS) } else { spin };
         loop {
-            if let Some(answered) = record.settled() {
-                return answered;
-            }
-            record.sleep(spin, self.deadline.map(|(time, _)| time));
+            record.sleep(looks, self.deadline.map(|(time, _)| time));
             if let Some((time, base)) = self.deadline
                 && sync::now() >= time
             {
                 self.alarm(record, ticket, base);
             }
-        }
-    }
-
-    /// What follows an answer: no latch knows of the sync any more, and its nacks fire.
-    pub(crate) fn end(&mut self, record: &Arc<Record>, answered: Answered) {
-        for ((latch, _), entry) in self.lists.latches.iter().zip(self.lists.entries.drain(..)) {
-            latch.leave(record, entry);
-        }
-        self.lists.wants = answered.wants;
-        for (latch, scope) in mem::take(&mut self.nacks) {
-            if !scope.contains(&answered.pick.base) {
-                latch.fire();
+            if let Some(answered) = record.settled() {
+                return answered;
             }
         }
     }
 
+    /// What follows an answer: no latch knows of the sync any more, and its nacks fire.
+    pub(crate) fn end(mut self: Box<Self>, record: &Arc<Record>, answered: Answered) {
+        if !self.latches.is_empty() {
+            for ((latch, _), entry) in self.latches.drain(..).zip(self.entries.drain(..)) {
+                latch.leave(record, entry);
+            }
+        }
+        if !self.nacks.is_empty() {
+            let is_lost = |(_, scope): &(Arc<Latch>, Range<u32>)| !scope.contains(&answered.pick.base);
+            self.nacks.drain(..).filter(is_lost).for_each(|(latch, _)| latch.fire());
+        }
+        self.bases = 0;
+        self.wants = answered.wants;
+        (self.hub, self.deadline, self.always) = (None, None, None);
+        let _ = FORCING.try_with(|own| own.set(Some(self)));
+    }
+
     /// The same for a sync of this thread, whose record it may use again.
-    pub(crate) fn end_here(&mut self, record: Arc<Record>, answered: Answered) {
+    pub(crate) fn end_here(self: Box<Self>, record: Arc<Record>, answered: Answered) {
         self.end(&record, answered);
         let _ = RECORD.try_with(|own| own.set(Some(record)));
     }
@@ -179,14 +192,9 @@ impl Forcing {
 
 impl Drop for Forcing {
     fn drop(&mut self) {
-        // they are left where a guard has panicked
+        // some are left where a guard has panicked
         for (latch, _) in mem::take(&mut self.nacks) {
             latch.fire();
         }
-        let mut lists = mem::take(&mut self.lists);
-        lists.wants.clear();
-        lists.latches.clear();
-        lists.entries.clear();
-        let _ = LISTS.try_with(|own| own.set(Some(lists)));
     }
 }

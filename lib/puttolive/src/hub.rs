@@ -44,7 +44,7 @@ use crate::channel::Channel;
 use crate::halves::{self, Receiver, Sender};
 use crate::record::{Job, Pick, Place, Record};
 use crate::sync::atomic::{AtomicU64, AtomicUsize, Ordering::SeqCst};
-use crate::sync::{self, Mutex, MutexGuard, lock};
+use crate::sync::{self, Mutex, MutexGuard, Padded, lock};
 use crate::table::{Grant, Pass, Row};
 use bench::Bench;
 use lines::Lines;
@@ -79,7 +79,8 @@ pub struct Config {
     pub rows: u16,
     /// How many threads may call the table at once, 1 to 16.
     pub passes: u8,
-    /// How often a waiting thread looks before it parks. From the seventh look on it lets others run between two.
+    /// How often a waiting thread looks before it parks. From the seventh look on it lets others run between two. Where more
+    /// than eight wait in line it parks there.
     pub spin: u32,
 }
 
@@ -104,10 +105,6 @@ pub struct Stats {
     pub audited: u64,
 }
 
-/// A value on a cache line of its own.
-#[repr(align(128))]
-struct Padded<T>(T);
-
 pub(crate) struct HubCore {
     pub(crate) config: Config,
     is_audited: bool,
@@ -120,7 +117,7 @@ pub(crate) struct HubCore {
     season: AtomicU64,
     shape: SharedShape,
     /// How many slots are in use.
-    busy: AtomicUsize,
+    busy: Padded<AtomicUsize>,
     /// Which slot is asked next to be given up.
     hand: AtomicUsize,
     bench: Bench,
@@ -191,8 +188,9 @@ impl<'a> Visit<'a> {
 impl Drop for Visit<'_> {
     fn drop(&mut self) {
         self.room = None;
-        for record in self.first_woken.take().iter().chain(&self.others_woken) {
+        if let Some(record) = self.first_woken.take() {
             record.wake();
+            self.others_woken.drain(..).for_each(|record| record.wake());
         }
     }
 }
@@ -215,7 +213,7 @@ impl HubCore {
             turning: Mutex::new(0),
             season: AtomicU64::new(0),
             shape: SharedShape::new(shape),
-            busy: AtomicUsize::new(0),
+            busy: Padded(AtomicUsize::new(0)),
             hand: AtomicUsize::new(0),
             bench: Bench::new(),
             lines: Lines::new(),

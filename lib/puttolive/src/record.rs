@@ -2,7 +2,7 @@
 
 use crate::hub::{Port, WINDOW};
 use crate::sync::atomic::{AtomicU32, AtomicU64, Ordering::SeqCst};
-use crate::sync::{self, Mutex, Thread, lock};
+use crate::sync::{self, Mutex, Padded, Thread, lock};
 use crate::table::{OFFERS, Offer, Row};
 use std::cell::Cell;
 use std::mem;
@@ -67,7 +67,7 @@ pub(crate) enum Place {
 pub(crate) struct Job {
     /// The number of the sync among those of its record.
     pub(crate) ticket: u64,
-    /// Whoever began earlier has a lower age.
+    /// 0 where it has none yet: see [`Job::age`].
     pub(crate) age: u64,
     pub(crate) wants: Vec<Want>,
     pub(crate) tail: Tail,
@@ -78,7 +78,18 @@ pub(crate) struct Job {
     pub(crate) turns: u32,
 }
 
+/// The next age. Ages are of all hubs, since a record may be used in each.
+static AGES: Padded<AtomicU64> = Padded(AtomicU64::new(1));
+
 impl Job {
+    /// Its age: whoever began to wait earlier has a lower one. It has one from the first time on that it is asked for.
+    pub(crate) fn age(&mut self) -> u64 {
+        if self.age == 0 {
+            self.age = AGES.0.fetch_add(1, SeqCst);
+        }
+        self.age
+    }
+
     /// How many wants a row shows from there on.
     pub(crate) fn count(&self, from: usize) -> usize {
         (self.wants.len() - from).min(WINDOW)
@@ -142,6 +153,9 @@ thread_local! {
     static KEPT: Cell<Option<Arc<Record>>> = const { Cell::new(None) };
 }
 
+/// The first looks of a thread that waits let nobody else run.
+pub(crate) const SHORT_LOOKS: u32 = 6;
+
 /// Who lets others run for so long shares the processor with other work: to sleep is better then.
 const LONG: Duration = Duration::from_micros(500);
 /// For so many waits.
@@ -167,9 +181,6 @@ fn lets_others_run() -> bool {
     }
     is_soon
 }
-
-/// The next age. Ages are of all hubs, since a record may be used in each.
-static AGES: AtomicU64 = AtomicU64::new(0);
 
 impl Record {
     const WAIT: u32 = 0;
@@ -209,7 +220,7 @@ impl Record {
         let mut job = lock(&self.job);
         job.wants = wants;
         job.ticket += 1;
-        job.age = AGES.fetch_add(1, SeqCst);
+        job.age = 0;
         job.tail = always.map_or(Tail::Alarms, Tail::Always);
         job.place = Place::Out;
         // no wake counts that came before
@@ -237,15 +248,17 @@ impl Record {
         }
     }
 
-    /// Asks for the answer of a task's sync, and where there is none has the task woken later.
+    /// Asks for the answer of a task's sync, and where there is none has the task woken later. Whoever answers wakes behind
+    /// it: so there is none where nobody has done so.
     pub(crate) fn poll(&self, context: &Context<'_>) -> Option<Answered> {
         let Sleeper::Task(waker) = &self.sleeper else { unreachable!("a task's record") };
         loop {
-            self.word.store(Record::WAIT, SeqCst);
-            if let Some(answered) = self.settled() {
+            if self.word.swap(Record::WAIT, SeqCst) == Record::WOKEN
+                && let Some(answered) = self.settled()
+            {
                 return Some(answered);
             }
-            // code of a user clones and drops wakers: under no lock
+            // code of the user clones and drops wakers: under no lock
             let fresh = context.waker().clone();
             let old = lock(waker).replace(fresh);
             drop(old);
@@ -276,7 +289,7 @@ impl Record {
             if self.word.load(SeqCst) == Record::WOKEN {
                 return;
             }
-            if look < 6 {
+            if look < SHORT_LOOKS {
                 (0..1 << look).for_each(|_| sync::spin_hint());
             } else if !lets_others_run() {
                 return;

@@ -9,6 +9,11 @@ pub(crate) use crate::schedule::{
     spin_hint, try_lock,
 };
 
+/// A value on a cache line of its own.
+#[derive(Default)]
+#[repr(align(128))]
+pub(crate) struct Padded<T>(pub(crate) T);
+
 #[cfg(not(schedules))]
 mod of_std {
     use std::cell::Cell;

@@ -27,7 +27,7 @@ enum State<E: Event> {
 
 /// A sync of a task that has no answer yet.
 struct Waits<E: Event> {
-    forcing: Forcing,
+    forcing: Box<Forcing>,
     ready: E::Ready,
     record: Arc<Record>,
     ticket: u64,
@@ -59,7 +59,8 @@ impl<E: Event> Waits<E> {
         let mut waits = Waits { forcing, ready, record, ticket: 0, timer: None };
         match started {
             Ok(answered) => Ok(waits.finish(answered)),
-            Err(ticket) => {
+            Err(waiting) => {
+                let ticket = waiting.ticket;
                 waits.ticket = ticket;
                 waits.timer = waits.forcing.due().map(|(time, base, hub)| {
                     let due = Due { record: waits.record.clone(), ticket, base, hub };
@@ -75,7 +76,6 @@ impl<E: Event> Waits<E> {
         self.ready.settle(pick);
         drop(self.timer);
         self.forcing.end(&self.record, answered);
-        drop(self.forcing);
         Record::keep(self.record);
         self.ready.finish(pick)
     }

@@ -318,21 +318,19 @@ fn ring() {
 const SHARE: u64 = 400;
 
 /// Of many threads that do the same on one channel all the time, each has its turn: between three quarters and five
-/// quarters of its share. A busy machine keeps some of them from running for long: what `std`'s channel, which serves in
-/// order too, does not reach then is not asked.
+/// quarters of its share. A busy machine keeps some of them from running for long: so it is asked ten times at the most.
 fn shares(threads: usize, config: Config, send: bool) {
-    let is_fair = |(least, most)| SHARE * 3 / 4 <= least && most <= SHARE * 5 / 4;
-    let mut failed = 0;
+    let mut had = Vec::new();
     for _ in 0..10 {
         let (least, most) = of_hub(threads, config, send);
         println!("{threads} threads, send {send}, {config:?}: of {SHARE} each the least {least}, the most {most}");
-        if is_fair((least, most)) {
+        if SHARE * 3 / 4 <= least && most <= SHARE * 5 / 4 {
             return;
         }
-        failed += u32::from(is_fair(of_std(threads)));
-        assert!(failed < 3, "{threads} threads, send {send}, {config:?}: {least} to {most} of {SHARE}");
+        had.push((least, most));
     }
-    println!("the machine is too busy to ask");
+    let beside = of_std(threads);
+    panic!("{threads} threads, send {send}, {config:?}: {had:?} of {SHARE}; std's channel beside: {beside:?}");
 }
 
 fn of_hub(threads: usize, config: Config, send: bool) -> (u64, u64) {
@@ -354,7 +352,7 @@ fn of_hub(threads: usize, config: Config, send: bool) -> (u64, u64) {
 fn of_std(threads: usize) -> (u64, u64) {
     let (sender, receiver) = mpsc::sync_channel(0);
     let receiver = RefCell::new(Some(receiver));
-    let meet = || drop(receiver.borrow().as_ref().expect("it is there").recv());
+    let meet = || _ = receiver.borrow().as_ref().expect("it is there").recv();
     let tell = move || format!("{threads} have turns by std's channel");
     within(tell, || least_and_most(threads, &|number| sender.send(number).is_ok(), meet, || drop(receiver.take())))
 }
@@ -369,8 +367,7 @@ fn least_and_most(
     let turns: Vec<AtomicU64> = (0..threads).map(|_| AtomicU64::new(0)).collect();
     let counts = || turns.iter().map(|count| count.load(SeqCst)).collect::<Vec<_>>();
     thread::scope(|scope| {
-        for number in 0..threads {
-            let count = &turns[number];
+        for (number, count) in turns.iter().enumerate() {
             scope.spawn(move || {
                 while turn(number) {
                     count.fetch_add(1, SeqCst);

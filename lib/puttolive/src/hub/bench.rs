@@ -107,9 +107,10 @@ impl Bench {
         let mut seats = lock(&self.seats);
         seats.last += 1;
         job.benched = seats.last;
+        let age = job.age();
         for (number, want) in job.wants.iter().enumerate() {
             let seat = Seat { record: record.clone(), ticket: job.ticket, want: number, number: job.benched };
-            seats.lanes.entry(own(want)).or_default().insert(job.age, seat);
+            seats.lanes.entry(own(want)).or_default().insert(age, seat);
             self.count(own(want)).fetch_add(1, SeqCst);
         }
         self.syncs.fetch_add(1, SeqCst);
@@ -117,9 +118,12 @@ impl Bench {
 
     /// Takes a sync from the bench, where it is there. Its record is another one's too: none is dropped for good here.
     pub(super) fn remove(&self, job: &mut Job) {
-        if job.benched == 0 {
-            return;
+        if job.benched != 0 {
+            self.take_away(job);
         }
+    }
+
+    fn take_away(&self, job: &mut Job) {
         let mut seats = lock(&self.seats);
         for want in &job.wants {
             self.count(own(want)).fetch_sub(1, SeqCst);

@@ -2,7 +2,7 @@
 //! first: who stands there may be gone, and who waits may stand in none.
 
 use super::HubCore;
-use crate::record::Want;
+use crate::record::{Job, Want};
 use crate::sync::atomic::Ordering::SeqCst;
 use crate::sync::{Mutex, MutexGuard, lock};
 use crate::table::Row;
@@ -20,6 +20,16 @@ pub(super) struct Lines {
 struct Line {
     receivers: VecDeque<Entry>,
     senders: VecDeque<Entry>,
+}
+
+/// What came of standing in line.
+pub(super) struct Stand {
+    /// Which thread of the table waits longest for the first want that anybody waits for.
+    pub(super) first: Option<u32>,
+    /// How many wants stand in line.
+    pub(super) wants: usize,
+    /// How many stand in the longest of these lines.
+    pub(super) crowd: usize,
 }
 
 #[derive(Clone, Copy)]
@@ -68,28 +78,53 @@ impl HubCore {
         facing.front().map(|entry| (entry.age, entry.row.thread as usize))
     }
 
-    /// Puts a row into the lines of its wants, where it waits. Tells which thread of the table waits longest for the first
-    /// want that anybody waits for.
-    pub(super) fn stand_in_line(&self, row: Row, age: u64, wants: &[Want], waits: bool) -> Option<u32> {
+    /// Puts a row that waits into the lines of the wants that it shows from there on, up to the first want that anybody
+    /// waits for: whom it may meet at once.
+    pub(super) fn stand_in_line(&self, row: Row, job: &mut Job, from: usize, waits: bool) -> Stand {
         let season = self.season.load(SeqCst);
-        let mut first = None;
-        for want in wants {
+        let count = job.count(from);
+        let mut crowd = 0;
+        for at in 0..count {
+            let want = &job.wants[from + at];
+            let is_send = want.is_send;
             let Some(mut line) = self.lines.line(want) else {
                 continue;
             };
-            if first.is_none() {
-                let facing = line.side(!want.is_send);
-                self.drop_stale(facing, season);
-                first = facing.front().map(|entry| entry.row.thread);
+            let facing = line.side(!is_send);
+            self.drop_stale(facing, season);
+            if let Some(first) = facing.front() {
+                return Stand { first: Some(first.row.thread), wants: at, crowd };
             }
             if waits {
-                let own = line.side(want.is_send);
-                self.drop_stale(own, season);
-                // who was put out and brought in is older than others that stand there
-                let behind = own.iter().rposition(|entry| entry.age <= age).map_or(0, |at| at + 1);
-                own.insert(behind, Entry { row, age, season });
+                crowd = crowd.max(self.put_in_line(line.side(is_send), Entry { row, age: job.age(), season }));
             }
         }
-        first
+        Stand { first: None, wants: count, crowd }
+    }
+
+    /// Puts a row that waits into the lines of the wants that it shows from there on, but for so many. Tells how many stand
+    /// in the longest of these lines.
+    pub(super) fn stand_in_lines(&self, row: Row, job: &mut Job, from: usize, but: usize) -> usize {
+        let entry = Entry { row, age: job.age(), season: self.season.load(SeqCst) };
+        let mut crowd = 0;
+        for want in &job.window(from)[but..] {
+            if let Some(mut line) = self.lines.line(want) {
+                crowd = crowd.max(self.put_in_line(line.side(want.is_send), entry));
+            }
+        }
+        crowd
+    }
+
+    /// Puts an entry into a line, behind all who are older: how many stand there now, some of whom may be gone.
+    fn put_in_line(&self, line: &mut VecDeque<Entry>, entry: Entry) -> usize {
+        self.drop_stale(line, entry.season);
+        if line.back().is_none_or(|last| last.age <= entry.age) {
+            line.push_back(entry);
+        } else {
+            // who was put out and brought in is older than others that stand there
+            let behind = line.iter().rposition(|other| other.age <= entry.age).map_or(0, |at| at + 1);
+            line.insert(behind, entry);
+        }
+        line.len()
     }
 }

@@ -109,7 +109,7 @@ impl HubCore {
                 self.release(slot);
             } else {
                 job.turns += 1;
-                let age = job.age;
+                let age = job.age();
                 drop(job);
                 staying.push(Staying { record, slot, age });
             }
@@ -127,7 +127,7 @@ impl HubCore {
         let count = job.write_offers(from, &mut offers);
         self.slots[sync.slot].0.next.store(1, SeqCst);
         job.place = Place::Table { row, from };
-        self.stand_in_line(row, sync.age, job.window(from), true);
+        self.stand_in_lines(row, &mut job, from, 0);
         drop(job);
         let home = sync.slot % passes.len();
         let found = passes[home].begin(row, &offers[..count], None).expect("a held fresh row");

@@ -1,6 +1,7 @@
 //! How a sync is shown in the table: a row of it is drafted, opened and searched, window after window, and whom it may meet
 //! on the bench is brought in.
 
+use super::lines::Stand;
 use super::{HubCore, Visit, WINDOW, answer, grant, pause, slots};
 use crate::record::{Answered, Pick, Place, Record, Tail, Want};
 use crate::sync::atomic::Ordering::SeqCst;
@@ -23,8 +24,8 @@ struct Guest<'g> {
 enum Shown {
     /// It has its answer, which is here if its own thread has shown it.
     Committed(Option<Answered>),
-    /// It waits.
-    Left,
+    /// It waits, with so many others in a line.
+    Left(usize),
     /// It is shown by another thread, or has its answer.
     Stale,
 }
@@ -35,8 +36,7 @@ struct Seated {
     offers: usize,
     /// Its last offer, where the row does not wait.
     always: Option<u32>,
-    /// Which thread of the table waits longest for it.
-    first: Option<u32>,
+    stand: Stand,
 }
 
 /// What came of asking for a row.
@@ -50,11 +50,18 @@ enum Seat {
 
 impl HubCore {
     /// Shows a sync of this thread in the table, all its sends and receives, so many at a time as a row has room for. Its
-    /// answer, if it is there at once: where it does not wait it always is.
-    pub(crate) fn enter(&self, record: &Arc<Record>, ticket: u64, wants: usize, waits: bool) -> Option<Answered> {
+    /// answer, if it is there at once: where it does not wait it always is. Else how many others wait in line with it.
+    pub(crate) fn enter(
+        &self,
+        record: &Arc<Record>,
+        ticket: u64,
+        wants: usize,
+        waits: bool,
+    ) -> Result<Answered, usize> {
         if waits && self.is_crowded() && self.waits_on_bench(record, ticket) {
-            return record.settled();
+            return Err(usize::MAX);
         }
+        let mut crowd = 0;
         let mut visit = Visit::new(self);
         let first = if self.bench.is_empty() { None } else { self.first_of_all(record, ticket, &mut visit) };
         let guest = Guest { record, ticket, stays: first.as_ref(), is_own: true };
@@ -67,12 +74,15 @@ impl HubCore {
                 false => self.show(guest, 0, &mut visit),
             };
             match shown {
-                Shown::Committed(answered) => return answered,
-                Shown::Left => self.meet_bench(guest, want, &mut visit),
+                Shown::Committed(answered) => return answered.ok_or(crowd),
+                Shown::Left(others) => {
+                    crowd = crowd.max(others);
+                    self.meet_bench(guest, want, &mut visit);
+                }
                 Shown::Stale => {}
             }
         }
-        if waits { record.settled() } else { self.end_at_once(guest) }
+        if waits { Err(crowd) } else { self.end_at_once(guest).ok_or(crowd) }
     }
 
     /// The answer of a sync that does not wait: its always, where nobody has met it.
@@ -118,7 +128,7 @@ impl HubCore {
                 }
             };
             match self.search(&mut pass, &seated, &offers) {
-                Found::Left => return Shown::Left,
+                Found::Left => return Shown::Left(self.stand_behind(guest.record, &seated)),
                 Found::Met(other) => {
                     if let Some(partner) = self.settle(&mut pass, other) {
                         visit.wake(partner);
@@ -159,8 +169,23 @@ impl HubCore {
         }
         let always = job.ends_at_once(from).then_some(count as u32 - 1);
         self.shown.add(job.window(from));
-        let first = self.stand_in_line(row, job.age, job.window(from), always.is_none());
-        Seat::Taken(Seated { row, offers: count, always, first })
+        let stand = self.stand_in_line(row, &mut job, from, always.is_none());
+        Seat::Taken(Seated { row, offers: count, always, stand })
+    }
+
+    /// Puts a row that was left into the lines in which it does not stand yet. Tells how many stand in the longest of its lines.
+    fn stand_behind(&self, record: &Record, seated: &Seated) -> usize {
+        let Stand { wants, crowd, .. } = seated.stand;
+        if wants + 1 == seated.offers || seated.always.is_some() {
+            return crowd;
+        }
+        let mut job = lock(&record.job);
+        match job.place {
+            Place::Table { row, from } if row == seated.row => {
+                crowd.max(self.stand_in_lines(row, &mut job, from, wants))
+            }
+            _ => crowd,
+        }
     }
 
     /// Somebody has to go, so that a number is free which his row has been lent.
@@ -175,7 +200,7 @@ impl HubCore {
     /// The row is drafted, opened and searched, until it is left or committed. Where it does not wait, and nobody is on the
     /// bench, it is granted its last offer in the end.
     fn search(&self, pass: &mut Pass, seated: &Seated, offers: &[Offer; OFFERS]) -> Found {
-        let mut found = pass.begin(seated.row, &offers[..seated.offers], seated.first).expect("a held fresh row");
+        let mut found = pass.begin(seated.row, &offers[..seated.offers], seated.stand.first).expect("a held fresh row");
         loop {
             match (found, seated.always) {
                 (Found::Again, _) => {
@@ -260,7 +285,7 @@ impl HubCore {
                     from_age = partner.age + 1;
                     let guest =
                         Guest { record: &partner.record, ticket: partner.ticket, stays: Some(&record), is_own: false };
-                    if let Shown::Left = self.bring_in(guest, partner.want, visit) {
+                    if let Shown::Left(_) = self.bring_in(guest, partner.want, visit) {
                         left.push((partner.record, partner.ticket, partner.want / WINDOW * WINDOW));
                     }
                 }
@@ -298,7 +323,7 @@ impl HubCore {
         let guest = Guest { record: &partner.record, ticket: partner.ticket, stays: Some(record), is_own: false };
         match self.bring_in(guest, partner.want, visit) {
             Shown::Committed(_) => return None,
-            Shown::Left => self.meet_bench(guest, partner.want / WINDOW * WINDOW, visit),
+            Shown::Left(_) => self.meet_bench(guest, partner.want / WINDOW * WINDOW, visit),
             Shown::Stale => {}
         }
         Some(partner.record)

@@ -130,7 +130,7 @@ impl HubCore {
                 } else if !slot.is_busy.swap(true, SeqCst) {
                     if slot.has_row(shape) {
                         set_hint(number);
-                        self.busy.fetch_add(1, SeqCst);
+                        self.busy.0.fetch_add(1, SeqCst);
                         return number;
                     }
                     slot.is_busy.store(false, SeqCst);
@@ -166,12 +166,12 @@ impl HubCore {
 
     /// Whether few slots are left, which then are for those who meet.
     pub(super) fn is_crowded(&self) -> bool {
-        self.busy.load(SeqCst) + self.slots.len() / 8 >= self.slots.len()
+        self.busy.0.load(SeqCst) + self.slots.len() / 8 >= self.slots.len()
     }
 
     pub(super) fn release(&self, slot: usize) {
         self.slots[slot].0.clear();
-        self.busy.fetch_sub(1, SeqCst);
+        self.busy.0.fetch_sub(1, SeqCst);
         self.slots[slot].0.is_busy.store(false, SeqCst);
     }
 
