@@ -79,8 +79,8 @@ pub struct Config {
     pub rows: u16,
     /// How many threads may call the table at once, 1 to 16.
     pub passes: u8,
-    /// How often a waiting thread looks before it parks. From the seventh look on it lets others run between two. Where more
-    /// than eight wait in line it parks there.
+    /// How often a waiting thread looks before it parks. From the seventh look on it lets others run between two, while
+    /// that is of use. Where more than eight wait in line it parks there.
     pub spin: u32,
 }
 

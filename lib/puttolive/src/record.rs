@@ -158,28 +158,41 @@ pub(crate) const SHORT_LOOKS: u32 = 6;
 
 /// Who lets others run for so long shares the processor with other work: to sleep is better then.
 const LONG: Duration = Duration::from_micros(500);
-/// For so many waits.
-const SLEEPS: u32 = 1000;
 
-thread_local! {
-    /// How many further waits of this thread let nobody else run.
-    static SLEEPY: Cell<u32> = const { Cell::new(0) };
+/// For how many waits at the least, and at the most, a thread lets nobody else run that has done so in vain.
+const FEW: u32 = 2;
+const MANY: u32 = 1024;
+
+/// How a thread looks before it sleeps, after what came of it.
+#[derive(Clone, Copy)]
+struct Patience {
+    /// For how many further waits it lets nobody else run.
+    left: u32,
+    /// How many they were the last time.
+    last: u32,
 }
 
-/// Lets others run, where they do not take long. Whether it was so.
-fn lets_others_run() -> bool {
-    let left = SLEEPY.try_with(Cell::get).unwrap_or(0);
-    if left > 0 {
-        let _ = SLEEPY.try_with(|sleepy| sleepy.set(left - 1));
-        return false;
+thread_local! {
+    static PATIENCE: Cell<Patience> = const { Cell::new(Patience { left: 0, last: 0 }) };
+}
+
+impl Patience {
+    fn get() -> Patience {
+        PATIENCE.try_with(Cell::get).unwrap_or(Patience { left: 0, last: 0 })
     }
-    let before = sync::now();
-    sync::pass_on();
-    let is_soon = sync::now().saturating_duration_since(before) < LONG;
-    if !is_soon {
-        let _ = SLEEPY.try_with(|sleepy| sleepy.set(SLEEPS));
+
+    fn set(self) {
+        let _ = PATIENCE.try_with(|patience| patience.set(self));
     }
-    is_soon
+
+    /// After a wait in which the thread let others run, and was woken meanwhile, or not.
+    fn after(self, is_woken: bool) -> Patience {
+        if is_woken {
+            return Patience { left: 0, last: self.last / 2 };
+        }
+        let last = (2 * self.last).clamp(FEW, MANY);
+        Patience { left: last, last }
+    }
 }
 
 impl Record {
@@ -283,18 +296,35 @@ impl Record {
         self.word.store(Record::WAIT, SeqCst);
     }
 
-    /// A few looks that grow longer, then such that let others run, while they come back soon.
+    fn is_woken(&self) -> bool {
+        self.word.load(SeqCst) == Record::WOKEN
+    }
+
+    /// A few looks that grow longer, then such that let others run, where that was of use before.
     fn look_often(&self, looks: u32) {
-        for look in 0..looks {
-            if self.word.load(SeqCst) == Record::WOKEN {
+        for look in 0..looks.min(SHORT_LOOKS) {
+            if self.is_woken() {
                 return;
             }
-            if look < SHORT_LOOKS {
-                (0..1 << look).for_each(|_| sync::spin_hint());
-            } else if !lets_others_run() {
-                return;
-            }
+            (0..1 << look).for_each(|_| sync::spin_hint());
         }
+        if looks <= SHORT_LOOKS || self.is_woken() {
+            return;
+        }
+        let patience = Patience::get();
+        if patience.left > 0 {
+            return Patience { left: patience.left - 1, ..patience }.set();
+        }
+        let is_woken = (SHORT_LOOKS..looks).find_map(|_| self.lets_others_run()).unwrap_or(false);
+        patience.after(is_woken).set();
+    }
+
+    /// Lets others run once: whether that was of use, if it is known by now.
+    fn lets_others_run(&self) -> Option<bool> {
+        let before = sync::now();
+        sync::pass_on();
+        let is_long = sync::now().saturating_duration_since(before) >= LONG;
+        if is_long { Some(false) } else { self.is_woken().then_some(true) }
     }
 
     /// Takes the sync's answer, if it has one.
