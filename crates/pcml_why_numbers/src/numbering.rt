@@ -36,7 +36,7 @@ fn says_again(alloc: Global, number: u32) -> Result<Arc<Block>, AllocError>
     ensures { IfOk result (λ block. block_of block.value ≡ says_again number) }
 {
     let end = Arc::new(alloc, Block::Done)?;
-    let again = Arc::new(alloc, Block::Then(says(number), end))?;
+    let again = Arc::new(alloc, Block::Then(says(number), 0, end))?;
     Ok(again)
 }
 
@@ -53,14 +53,14 @@ fn number_block(
 {
     let mut parts = Vec::new(alloc);
     let mut rest = block;
-    while let Block::Then(stmt, more) = &**rest {
+    while let Block::Then(stmt, _, more) = &**rest {
         parts.push(says(*next))?;
         parts.push(number_stmt(alloc, next, stmt)?)?;
         rest = more;
     }
     let mut all = behind;
     while let Some(part) = parts.pop() {
-        all = Arc::new(alloc, Block::Then(part, all))?;
+        all = Arc::new(alloc, Block::Then(part, 0, all))?;
     }
     Ok(all)
 }
@@ -124,6 +124,7 @@ fn number_turn(
         names: turn.names,
         event,
         rest,
+        line: 0,
     };
     let all = Arc::new(alloc, all)?;
     Ok(all)

@@ -29,7 +29,7 @@ fn block_syncs(block: &Block) -> u32
 {
     let mut count = 0u32;
     let mut rest = block;
-    while let Block::Then(statement, behind) = rest {
+    while let Block::Then(statement, _, behind) = rest {
         count = count.saturating_add(statement_syncs(statement));
         rest = behind;
     }
@@ -133,7 +133,7 @@ fn block_offers(block: &Block) -> u8
 {
     let mut most = 0;
     let mut rest = block;
-    while let Block::Then(statement, behind) = rest {
+    while let Block::Then(statement, _, behind) = rest {
         most = most.max(statement_offers(statement));
         rest = behind;
     }

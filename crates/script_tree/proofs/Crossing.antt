@@ -199,7 +199,7 @@ stmt_row_send =
     variants_send Stmt.enum ((search sendable, (x, tt)), ((x, tt), ((bound_send, (event_hole_send, tt)), ((test_send, (b, (b, tt))), ((search sendable, (t, tt)), ((t, tt), (tt, ((search sendable, tt), tt))))))))
 
 pub block_row_send : IsSend Block.the_row
-block_row_send = variants_send Block.enum (tt, ((stmt_row_send, (block_hole_send, tt)), tt))
+block_row_send = variants_send Block.enum (tt, ((stmt_row_send, (search sendable, (block_hole_send, tt))), tt))
 
 block_hole_sync : IsSync (Arc (holes Block.the_ring Block.the_member))
 block_hole_sync = let a = tree_send Block.the_member in let b = tree_sync Block.the_member in search (sendable, crosses) depth 20
@@ -229,7 +229,7 @@ stmt_row_sync =
     variants_sync Stmt.enum ((search sendable, (x, tt)), ((x, tt), ((bound_sync, (event_hole_sync, tt)), ((test_sync, (b, (b, tt))), ((search sendable, (t, tt)), ((t, tt), (tt, ((search sendable, tt), tt))))))))
 
 pub block_row_sync : IsSync Block.the_row
-block_row_sync = variants_sync Block.enum (tt, ((stmt_row_sync, (block_hole_sync, tt)), tt))
+block_row_sync = variants_sync Block.enum (tt, ((stmt_row_sync, (search sendable, (block_hole_sync, tt))), tt))
 
 pub process_send : IsSend Proc.the_row
 process_send =

@@ -120,14 +120,14 @@ abbrev mutual
   stmt_of (Print value) = Prints (expr_of value)
   stmt_of (Sync' names p event) = Syncs (option_map names_of names) (event_of event)
   stmt_of (If' test p first q second) = Branches (test_of test) (block_of first) (block_of second)
-  stmt_of (Loop' times p names q event r rest) = Loops times (option_map names_of names) (event_of event) (block_of rest)
-  stmt_of (Forever' p names q event r rest) = LoopsForever (option_map names_of names) (event_of event) (block_of rest)
+  stmt_of (Loop' times p names q event r rest line) = Loops times (option_map names_of names) (event_of event) (block_of rest)
+  stmt_of (Forever' p names q event r rest line) = LoopsForever (option_map names_of names) (event_of event) (block_of rest)
   stmt_of End = Ends
   stmt_of (Spawn process) = Spawns process
 
   pub block_of : SeenBlock → Block
   block_of Done = Stops
-  block_of (Then' stmt p rest) = Runs (stmt_of stmt) (block_of rest)
+  block_of (Then' stmt line p rest) = Runs (stmt_of stmt) (block_of rest)
 
 -- what a loop's body begins with, and what stands behind it
 pub record LoopBody : Type 0 where

@@ -14,7 +14,7 @@ pub fn spawned(block: &Block) -> u64
 {
     let mut mask = 0;
     let mut rest = block;
-    while let Block::Then(stmt, behind) = rest {
+    while let Block::Then(stmt, _, behind) = rest {
         mask |= spawned_by(stmt);
         rest = behind;
     }

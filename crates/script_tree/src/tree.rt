@@ -139,7 +139,8 @@ pub enum Stmt {
 #[cycle(process)]
 pub enum Block {
     Done,
-    Then(Stmt, Arc<Block>),
+    /// A statement, the line of its first word, and what follows.
+    Then(Stmt, u32, Arc<Block>),
 }
 
 /// The body of a loop: a sync, and the statements behind it.
@@ -149,6 +150,8 @@ pub struct LoopBody {
     pub names: Option<Names>,
     pub event: Arc<Event>,
     pub rest: Arc<Block>,
+    /// The line at which the sync begins.
+    pub line: u32,
 }
 
 impl Drop for Events {
@@ -172,7 +175,7 @@ impl Drop for Block {
         loop {
             match self {
                 Block::Done => return,
-                Block::Then(_, rest) => match Arc::into_inner(rest) {
+                Block::Then(_, _, rest) => match Arc::into_inner(rest) {
                     Some(next) => self = next,
                     None => return,
                 },

@@ -164,7 +164,7 @@ fn put_stmts(out: &mut String, source: &Source<'_>, block: &Block) -> Result<(),
     ensures { OnOk result (Adds out.old out.new (stmts_text (source_names source.now) (block_of block.now))) }
 {
     let mut rest = block;
-    while let Block::Then(stmt, next) = rest {
+    while let Block::Then(stmt, _, next) = rest {
         put_stmt(out, source, stmt)?;
         rest = next;
     }

@@ -57,7 +57,7 @@ pub(crate) fn run(
     ensures spawned { IfOk result (λ step. SpawnsOn memory.old memory.new) }
 {
     let place = place_at(code, at);
-    let Block::Then(stmt, _) = &*place.block else {
+    let Block::Then(stmt, _, _) = &*place.block else {
         let step = back(code, memory, stack)?;
         return Ok(step);
     };

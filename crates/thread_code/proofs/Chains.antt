@@ -10,7 +10,7 @@ use Rattle.thread_code.specs.Fitting.{BlockFits}
 -- what stands behind a block's first statement
 abbrev pub behind : SeenBlock → SeenBlock
 behind Done = Done
-behind (Then' stmt p rest) = rest
+behind (Then' stmt line p rest) = rest
 
 -- the parts of a block, from its whole to what is left
 abbrev pub Chain : {Z : Type 0} → List (Arc SeenBlock Z) → SeenBlock → SeenBlock → Type 0
@@ -29,7 +29,7 @@ chain_last (other ∷ parts) part whole rest h =
 
 fits_behind : (b : SeenBlock) → BlockFits (block_of b) → BlockFits (block_of (behind b))
 fits_behind Done fits = fits
-fits_behind (Then' stmt p rest) fits = fits.1
+fits_behind (Then' stmt line p rest) fits = fits.1
 
 pub chain_fits : {Z : Type 0} (parts : List (Arc SeenBlock Z)) (whole rest : SeenBlock) → Chain parts whole rest → BlockFits (block_of whole) → BlockFits (block_of rest)
 chain_fits [] whole rest h fits = subst (λ b. BlockFits (block_of b)) h fits
@@ -37,4 +37,4 @@ chain_fits (part ∷ parts) whole rest h fits = chain_fits parts (behind whole) 
 
 pub leads_behind : (c : Code) (next : ℕ) (b : SeenBlock) → IsAt c next (block_of (behind b)) → LeadsTo c next (block_of b)
 leads_behind c next Done h = tt
-leads_behind c next (Then' stmt p rest) h = h
+leads_behind c next (Then' stmt line p rest) h = h

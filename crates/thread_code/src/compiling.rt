@@ -58,7 +58,7 @@ fn add_block(alloc: Global, code: &mut Code, block: &Arc<Block>) -> Result<u32, 
 {
     let mut parts = Vec::new(alloc);
     let mut rest = block;
-    while let Block::Then(_, behind) = &**rest {
+    while let Block::Then(_, _, behind) = &**rest {
         parts.push(Arc::try_clone(rest)?)?;
         rest = behind;
     }
@@ -97,7 +97,7 @@ fn add_statement(
         second: 0,
     };
     match &*place.block {
-        Block::Then(Stmt::If(_, first, second), _) => {
+        Block::Then(Stmt::If(_, first, second), _, _) => {
             let first = add_block(alloc, code, first)?;
             let second = add_block(alloc, code, second)?;
             place.first = first;
@@ -105,14 +105,14 @@ fn add_statement(
             let at = add_place(code, place)?;
             Ok(at)
         }
-        Block::Then(Stmt::Sync(names, event), _) => {
-            place.first = add_sync(alloc, code, *names, event, next)?;
+        Block::Then(Stmt::Sync(names, event), line, _) => {
+            place.first = add_sync(alloc, code, *names, event, next, *line)?;
             let at = add_place(code, place)?;
             Ok(at)
         }
-        Block::Then(Stmt::Loop(_, turn), _) | Block::Then(Stmt::Forever(turn), _) => {
+        Block::Then(Stmt::Loop(_, turn), _, _) | Block::Then(Stmt::Forever(turn), _, _) => {
             let rest = add_block(alloc, code, &turn.rest)?;
-            place.first = add_sync(alloc, code, turn.names, &turn.event, rest)?;
+            place.first = add_sync(alloc, code, turn.names, &turn.event, rest, turn.line)?;
             let at = add_place(code, place)?;
             Ok(at)
         }
@@ -131,6 +131,7 @@ fn add_sync(
     names: Option<Names>,
     event: &Arc<Event>,
     then: u32,
+    line: u32,
 ) -> Result<u32, AllocError>
     requires linked { IsLinked code.old }
     requires fits { EventFits (event_of event.now.value) × IsSmall (event_of event.now.value) }
@@ -146,6 +147,7 @@ fn add_sync(
         event: Arc::try_clone(event)?,
         stages,
         then,
+        line,
     };
     let number = add_plan(code, plan)?;
     Ok(number)

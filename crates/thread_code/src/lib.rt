@@ -43,6 +43,8 @@ pub struct Plan {
     pub stages: Vec<Stage>,
     /// The place behind the sync.
     pub then: u32,
+    /// The line at which the sync begins.
+    pub line: u32,
 }
 
 /// The code of a process.

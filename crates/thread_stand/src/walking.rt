@@ -18,7 +18,7 @@ impl Walk<'_> {
         ensures { came result self.new ≡ walk_block (block_of block.now) (view_in self.old) }
     {
         let mut rest = block;
-        while let Block::Then(stmt, behind) = rest {
+        while let Block::Then(stmt, _, behind) = rest {
             self.step(stmt)?;
             rest = behind;
         }

@@ -34,7 +34,7 @@ fn first_stmt(script: &Script) -> Option<&Stmt> {
     let process = script.processes().first()?;
     let body: &Block = process.body();
     match body {
-        Block::Then(stmt, _) => Some(stmt),
+        Block::Then(stmt, _, _) => Some(stmt),
         Block::Done => None,
     }
 }

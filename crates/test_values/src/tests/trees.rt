@@ -10,7 +10,7 @@ const MANY: usize = 30000;
 fn long_block(alloc: Global) -> Result<Block, AllocError> {
     let mut block = Block::Done;
     for _ in 0..MANY {
-        block = Block::Then(Stmt::End, Arc::new(alloc, block)?);
+        block = Block::Then(Stmt::End, 1, Arc::new(alloc, block)?);
     }
     Ok(block)
 }
@@ -41,7 +41,7 @@ fn long_lists_drop(rt: HostRuntime) -> Result<(), Fail> {
     let alloc = rt.alloc();
     let _ = long_choice(alloc)?;
     let print = Stmt::Print(long_sum(alloc)?);
-    let _ = Block::Then(print, Arc::new(alloc, long_block(alloc)?)?);
+    let _ = Block::Then(print, 1, Arc::new(alloc, long_block(alloc)?)?);
     Ok(())
 }
 
@@ -72,12 +72,12 @@ fn processes(rt: HostRuntime) -> Result<(), Fail> {
 
 /// `sync guard { spawn process; } never; spawn 63;`
 fn spawning_twice(alloc: Global, process: u8) -> Result<Block, AllocError> {
-    let guarded = Block::Then(Stmt::Spawn(process), Arc::new(alloc, Block::Done)?);
+    let guarded = Block::Then(Stmt::Spawn(process), 1, Arc::new(alloc, Block::Done)?);
     let never = Arc::new(alloc, Event::Never)?;
     let event = Event::Guard(Arc::new(alloc, guarded)?, never);
     let sync = Stmt::Sync(None, Arc::new(alloc, event)?);
-    let rest = Block::Then(Stmt::Spawn(63), Arc::new(alloc, Block::Done)?);
-    Ok(Block::Then(sync, Arc::new(alloc, rest)?))
+    let rest = Block::Then(Stmt::Spawn(63), 1, Arc::new(alloc, Block::Done)?);
+    Ok(Block::Then(sync, 1, Arc::new(alloc, rest)?))
 }
 
 #[test]

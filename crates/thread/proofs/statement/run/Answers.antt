@@ -14,43 +14,43 @@ use Rattle.thread.proofs.statement.run.Goals as goal
 pub returns-in-Ok-clause-fits : goal.returns-in-Ok-clause-fits
 returns-in-Ok-clause-fits c =
     let p = c.place_at-place.result.now in
-    let rest = block_of c.in-Then.field-1.value in
-    let runs = ap block_of (sym c.deref.ensures ∙ c.in-Then.is) ∙ ap (λ st. Runs (stmt_of st) (block_of c.in-Then.field-1.value)) c.in-Let.is in
+    let rest = block_of c.in-Then.field-2.value in
+    let runs = ap block_of (sym c.deref.ensures ∙ c.in-Then.is) ∙ ap (λ st. Runs (stmt_of st) (block_of c.in-Then.field-2.value)) c.in-Let.is in
     (next_there c.args.code.now c.args.at p _ rest c.requires.linked c.place_at-place.ensures runs, c.requires.fits.1)
 
 pub returns-in_ok-push-in-Ok-value_of-clause-fits : goal.returns-in_ok-push-in-Ok-value_of-clause-fits
 returns-in_ok-push-in-Ok-value_of-clause-fits c =
     let p = c.place_at-place.result.now in
-    let rest = block_of c.in-Then.field-1.value in
-    let runs = ap block_of (sym c.deref.ensures ∙ c.in-Then.is) ∙ ap (λ st. Runs (stmt_of st) (block_of c.in-Then.field-1.value)) c.in-Print.is in
+    let rest = block_of c.in-Then.field-2.value in
+    let runs = ap block_of (sym c.deref.ensures ∙ c.in-Then.is) ∙ ap (λ st. Runs (stmt_of st) (block_of c.in-Then.field-2.value)) c.in-Print.is in
     (next_there c.args.code.now c.args.at p _ rest c.requires.linked c.place_at-place.ensures runs, c.requires.fits.1)
 
 pub returns-in-Sync-clause-does : goal.returns-in-Sync-clause-does
 returns-in-Sync-clause-does c = λ rs.
     let p = c.place_at-place.result.now in
-    let rest = block_of c.in-Then.field-1.value in
-    let runs = ap block_of (sym c.deref.ensures ∙ c.in-Then.is) ∙ ap (λ st. Runs (stmt_of st) (block_of c.in-Then.field-1.value)) c.in-Sync.is in
+    let rest = block_of c.in-Then.field-2.value in
+    let runs = ap block_of (sym c.deref.ensures ∙ c.in-Then.is) ∙ ap (λ st. Runs (stmt_of st) (block_of c.in-Then.field-2.value)) c.in-Sync.is in
     sync_does c.args.code.now c.args.at p _ _ rest c.requires.linked c.place_at-place.ensures runs (lists_of c.args.stack.now) c.opening.result c.opening.ensures (frames_on c.args.code.now c.args.stack.now.frames.items) (state_of c.args.memory.now rs)
 
 pub returns-in-Sync-clause-falls : goal.returns-in-Sync-clause-falls
 returns-in-Sync-clause-falls c =
     let p = c.place_at-place.result.now in
-    let rest = block_of c.in-Then.field-1.value in
-    let runs = ap block_of (sym c.deref.ensures ∙ c.in-Then.is) ∙ ap (λ st. Runs (stmt_of st) (block_of c.in-Then.field-1.value)) c.in-Sync.is in
+    let rest = block_of c.in-Then.field-2.value in
+    let runs = ap block_of (sym c.deref.ensures ∙ c.in-Then.is) ∙ ap (λ st. Runs (stmt_of st) (block_of c.in-Then.field-2.value)) c.in-Sync.is in
     sync_falls c.args.code.now c.args.at p _ _ rest c.requires.linked c.place_at-place.ensures runs (lists_of c.args.stack.now) c.opening.result c.opening.ensures _
 
 pub returns-in-Sync-clause-fits : goal.returns-in-Sync-clause-fits
 returns-in-Sync-clause-fits c =
     let p = c.place_at-place.result.now in
-    let rest = block_of c.in-Then.field-1.value in
-    let runs = ap block_of (sym c.deref.ensures ∙ c.in-Then.is) ∙ ap (λ st. Runs (stmt_of st) (block_of c.in-Then.field-1.value)) c.in-Sync.is in
+    let rest = block_of c.in-Then.field-2.value in
+    let runs = ap block_of (sym c.deref.ensures ∙ c.in-Then.is) ∙ ap (λ st. Runs (stmt_of st) (block_of c.in-Then.field-2.value)) c.in-Sync.is in
     sync_fits c.args.code.now c.args.at p _ _ rest c.requires.linked c.place_at-place.ensures runs (lists_of c.args.stack.now) c.opening.result c.opening.ensures c.args.stack.now.frames.items c.requires.fits.1
 
 pub returns-in_ok-push-in-Ok-true-clause-does : goal.returns-in_ok-push-in-Ok-true-clause-does
 returns-in_ok-push-in-Ok-true-clause-does c = λ rs.
     let p = c.place_at-place.result.now in
-    let rest = block_of c.in-Then.field-1.value in
-    let runs = ap block_of (sym c.deref.ensures ∙ c.in-Then.is) ∙ ap (λ st. Runs (stmt_of st) (block_of c.in-Then.field-1.value)) c.in-If.is in
+    let rest = block_of c.in-Then.field-2.value in
+    let runs = ap block_of (sym c.deref.ensures ∙ c.in-Then.is) ∙ ap (λ st. Runs (stmt_of st) (block_of c.in-Then.field-2.value)) c.in-If.is in
     let led = (leads_at c.args.code.now c.args.at p _ rest c.requires.linked c.place_at-place.ensures runs).1.0 in
     let is = c.in_ok-push-in-Ok-true.ensures.items in
     let s = state_of c.args.memory.now rs in
@@ -60,8 +60,8 @@ returns-in_ok-push-in-Ok-true-clause-does c = λ rs.
 pub returns-in_ok-push-in-Ok-true-clause-falls : goal.returns-in_ok-push-in-Ok-true-clause-falls
 returns-in_ok-push-in-Ok-true-clause-falls c =
     let p = c.place_at-place.result.now in
-    let rest = block_of c.in-Then.field-1.value in
-    let runs = ap block_of (sym c.deref.ensures ∙ c.in-Then.is) ∙ ap (λ st. Runs (stmt_of st) (block_of c.in-Then.field-1.value)) c.in-If.is in
+    let rest = block_of c.in-Then.field-2.value in
+    let runs = ap block_of (sym c.deref.ensures ∙ c.in-Then.is) ∙ ap (λ st. Runs (stmt_of st) (block_of c.in-Then.field-2.value)) c.in-If.is in
     let led = (leads_at c.args.code.now c.args.at p _ rest c.requires.linked c.place_at-place.ensures runs).1.0 in
     let is = c.in_ok-push-in-Ok-true.ensures.items in
     branch_falls c.args.code.now c.args.at p _ rest c.requires.linked c.place_at-place.ensures runs c.push-in-Ok-true.new.self.items c.args.stack.now.frames.items (lists_of c.args.stack.now) is p.first _ led (omega arith)
@@ -69,8 +69,8 @@ returns-in_ok-push-in-Ok-true-clause-falls c =
 pub returns-in_ok-push-in-Ok-true-clause-fits : goal.returns-in_ok-push-in-Ok-true-clause-fits
 returns-in_ok-push-in-Ok-true-clause-fits c =
     let p = c.place_at-place.result.now in
-    let rest = block_of c.in-Then.field-1.value in
-    let runs = ap block_of (sym c.deref.ensures ∙ c.in-Then.is) ∙ ap (λ st. Runs (stmt_of st) (block_of c.in-Then.field-1.value)) c.in-If.is in
+    let rest = block_of c.in-Then.field-2.value in
+    let runs = ap block_of (sym c.deref.ensures ∙ c.in-Then.is) ∙ ap (λ st. Runs (stmt_of st) (block_of c.in-Then.field-2.value)) c.in-If.is in
     let led = (leads_at c.args.code.now c.args.at p _ rest c.requires.linked c.place_at-place.ensures runs).1.0 in
     let is = c.in_ok-push-in-Ok-true.ensures.items in
     (at_there c.args.code.now p.first _ led, branch_fits c.args.code.now c.args.at p _ rest c.requires.linked c.place_at-place.ensures runs c.push-in-Ok-true.new.self.items c.args.stack.now.frames.items (lists_of c.args.stack.now) is c.requires.fits.1)
@@ -78,8 +78,8 @@ returns-in_ok-push-in-Ok-true-clause-fits c =
 pub returns-in_ok-push-in-Ok-false-clause-does : goal.returns-in_ok-push-in-Ok-false-clause-does
 returns-in_ok-push-in-Ok-false-clause-does c = λ rs.
     let p = c.place_at-place.result.now in
-    let rest = block_of c.in-Then.field-1.value in
-    let runs = ap block_of (sym c.deref.ensures ∙ c.in-Then.is) ∙ ap (λ st. Runs (stmt_of st) (block_of c.in-Then.field-1.value)) c.in-If.is in
+    let rest = block_of c.in-Then.field-2.value in
+    let runs = ap block_of (sym c.deref.ensures ∙ c.in-Then.is) ∙ ap (λ st. Runs (stmt_of st) (block_of c.in-Then.field-2.value)) c.in-If.is in
     let led = (leads_at c.args.code.now c.args.at p _ rest c.requires.linked c.place_at-place.ensures runs).1.1 in
     let is = c.in_ok-push-in-Ok-false.ensures.items in
     let s = state_of c.args.memory.now rs in
@@ -89,8 +89,8 @@ returns-in_ok-push-in-Ok-false-clause-does c = λ rs.
 pub returns-in_ok-push-in-Ok-false-clause-falls : goal.returns-in_ok-push-in-Ok-false-clause-falls
 returns-in_ok-push-in-Ok-false-clause-falls c =
     let p = c.place_at-place.result.now in
-    let rest = block_of c.in-Then.field-1.value in
-    let runs = ap block_of (sym c.deref.ensures ∙ c.in-Then.is) ∙ ap (λ st. Runs (stmt_of st) (block_of c.in-Then.field-1.value)) c.in-If.is in
+    let rest = block_of c.in-Then.field-2.value in
+    let runs = ap block_of (sym c.deref.ensures ∙ c.in-Then.is) ∙ ap (λ st. Runs (stmt_of st) (block_of c.in-Then.field-2.value)) c.in-If.is in
     let led = (leads_at c.args.code.now c.args.at p _ rest c.requires.linked c.place_at-place.ensures runs).1.1 in
     let is = c.in_ok-push-in-Ok-false.ensures.items in
     branch_falls c.args.code.now c.args.at p _ rest c.requires.linked c.place_at-place.ensures runs c.push-in-Ok-false.new.self.items c.args.stack.now.frames.items (lists_of c.args.stack.now) is p.second _ led (omega arith)
@@ -98,8 +98,8 @@ returns-in_ok-push-in-Ok-false-clause-falls c =
 pub returns-in_ok-push-in-Ok-false-clause-fits : goal.returns-in_ok-push-in-Ok-false-clause-fits
 returns-in_ok-push-in-Ok-false-clause-fits c =
     let p = c.place_at-place.result.now in
-    let rest = block_of c.in-Then.field-1.value in
-    let runs = ap block_of (sym c.deref.ensures ∙ c.in-Then.is) ∙ ap (λ st. Runs (stmt_of st) (block_of c.in-Then.field-1.value)) c.in-If.is in
+    let rest = block_of c.in-Then.field-2.value in
+    let runs = ap block_of (sym c.deref.ensures ∙ c.in-Then.is) ∙ ap (λ st. Runs (stmt_of st) (block_of c.in-Then.field-2.value)) c.in-If.is in
     let led = (leads_at c.args.code.now c.args.at p _ rest c.requires.linked c.place_at-place.ensures runs).1.1 in
     let is = c.in_ok-push-in-Ok-false.ensures.items in
     (at_there c.args.code.now p.second _ led, branch_fits c.args.code.now c.args.at p _ rest c.requires.linked c.place_at-place.ensures runs c.push-in-Ok-false.new.self.items c.args.stack.now.frames.items (lists_of c.args.stack.now) is c.requires.fits.1)
@@ -107,8 +107,8 @@ returns-in_ok-push-in-Ok-false-clause-fits c =
 pub returns-in-Loop-clause-does : goal.returns-in-Loop-clause-does
 returns-in-Loop-clause-does c =
     let p = c.place_at-place.result.now in
-    let rest = block_of c.in-Then.field-1.value in
-    let runs = ap block_of (sym c.deref.ensures ∙ c.in-Then.is) ∙ ap (λ st. Runs (stmt_of st) (block_of c.in-Then.field-1.value)) c.in-Loop.is in
+    let rest = block_of c.in-Then.field-2.value in
+    let runs = ap block_of (sym c.deref.ensures ∙ c.in-Then.is) ∙ ap (λ st. Runs (stmt_of st) (block_of c.in-Then.field-2.value)) c.in-Loop.is in
     let old = c.args.stack.now.frames.items in
     let put = old ++ Rest p.next ∷ [] in
     let has = (leads_at c.args.code.now c.args.at p _ rest c.requires.linked c.place_at-place.ensures runs).1 in
@@ -124,8 +124,8 @@ returns-in-Loop-clause-does c =
 pub returns-in-Loop-clause-falls : goal.returns-in-Loop-clause-falls
 returns-in-Loop-clause-falls c =
     let p = c.place_at-place.result.now in
-    let rest = block_of c.in-Then.field-1.value in
-    let runs = ap block_of (sym c.deref.ensures ∙ c.in-Then.is) ∙ ap (λ st. Runs (stmt_of st) (block_of c.in-Then.field-1.value)) c.in-Loop.is in
+    let rest = block_of c.in-Then.field-2.value in
+    let runs = ap block_of (sym c.deref.ensures ∙ c.in-Then.is) ∙ ap (λ st. Runs (stmt_of st) (block_of c.in-Then.field-2.value)) c.in-Loop.is in
     let old = c.args.stack.now.frames.items in
     let put = old ++ Rest p.next ∷ [] in
     let has = (leads_at c.args.code.now c.args.at p _ rest c.requires.linked c.place_at-place.ensures runs).1 in
@@ -139,8 +139,8 @@ returns-in-Loop-clause-falls c =
 pub returns-in-Loop-clause-fits : goal.returns-in-Loop-clause-fits
 returns-in-Loop-clause-fits c =
     let p = c.place_at-place.result.now in
-    let rest = block_of c.in-Then.field-1.value in
-    let runs = ap block_of (sym c.deref.ensures ∙ c.in-Then.is) ∙ ap (λ st. Runs (stmt_of st) (block_of c.in-Then.field-1.value)) c.in-Loop.is in
+    let rest = block_of c.in-Then.field-2.value in
+    let runs = ap block_of (sym c.deref.ensures ∙ c.in-Then.is) ∙ ap (λ st. Runs (stmt_of st) (block_of c.in-Then.field-2.value)) c.in-Loop.is in
     let old = c.args.stack.now.frames.items in
     let put = old ++ Rest p.next ∷ [] in
     let has = (leads_at c.args.code.now c.args.at p _ rest c.requires.linked c.place_at-place.ensures runs).1 in
@@ -155,8 +155,8 @@ returns-in-Loop-clause-fits c =
 pub returns-in-Forever-clause-does : goal.returns-in-Forever-clause-does
 returns-in-Forever-clause-does c =
     let p = c.place_at-place.result.now in
-    let rest = block_of c.in-Then.field-1.value in
-    let runs = ap block_of (sym c.deref.ensures ∙ c.in-Then.is) ∙ ap (λ st. Runs (stmt_of st) (block_of c.in-Then.field-1.value)) c.in-Forever.is in
+    let rest = block_of c.in-Then.field-2.value in
+    let runs = ap block_of (sym c.deref.ensures ∙ c.in-Then.is) ∙ ap (λ st. Runs (stmt_of st) (block_of c.in-Then.field-2.value)) c.in-Forever.is in
     let old = c.args.stack.now.frames.items in
     let put = old ++ Rest p.next ∷ [] in
     let has = (leads_at c.args.code.now c.args.at p _ rest c.requires.linked c.place_at-place.ensures runs).1 in
@@ -172,8 +172,8 @@ returns-in-Forever-clause-does c =
 pub returns-in-Forever-clause-falls : goal.returns-in-Forever-clause-falls
 returns-in-Forever-clause-falls c =
     let p = c.place_at-place.result.now in
-    let rest = block_of c.in-Then.field-1.value in
-    let runs = ap block_of (sym c.deref.ensures ∙ c.in-Then.is) ∙ ap (λ st. Runs (stmt_of st) (block_of c.in-Then.field-1.value)) c.in-Forever.is in
+    let rest = block_of c.in-Then.field-2.value in
+    let runs = ap block_of (sym c.deref.ensures ∙ c.in-Then.is) ∙ ap (λ st. Runs (stmt_of st) (block_of c.in-Then.field-2.value)) c.in-Forever.is in
     let old = c.args.stack.now.frames.items in
     let put = old ++ Rest p.next ∷ [] in
     let has = (leads_at c.args.code.now c.args.at p _ rest c.requires.linked c.place_at-place.ensures runs).1 in
@@ -187,8 +187,8 @@ returns-in-Forever-clause-falls c =
 pub returns-in-Forever-clause-fits : goal.returns-in-Forever-clause-fits
 returns-in-Forever-clause-fits c =
     let p = c.place_at-place.result.now in
-    let rest = block_of c.in-Then.field-1.value in
-    let runs = ap block_of (sym c.deref.ensures ∙ c.in-Then.is) ∙ ap (λ st. Runs (stmt_of st) (block_of c.in-Then.field-1.value)) c.in-Forever.is in
+    let rest = block_of c.in-Then.field-2.value in
+    let runs = ap block_of (sym c.deref.ensures ∙ c.in-Then.is) ∙ ap (λ st. Runs (stmt_of st) (block_of c.in-Then.field-2.value)) c.in-Forever.is in
     let old = c.args.stack.now.frames.items in
     let put = old ++ Rest p.next ∷ [] in
     let has = (leads_at c.args.code.now c.args.at p _ rest c.requires.linked c.place_at-place.ensures runs).1 in
@@ -203,14 +203,14 @@ returns-in-Forever-clause-fits c =
 pub returns-in_ok-spawn-in-Spawn-clause-does : goal.returns-in_ok-spawn-in-Spawn-clause-does
 returns-in_ok-spawn-in-Spawn-clause-does c = λ rs.
     let p = c.place_at-place.result.now in
-    let rest = block_of c.in-Then.field-1.value in
-    let runs = ap block_of (sym c.deref.ensures ∙ c.in-Then.is) ∙ ap (λ st. Runs (stmt_of st) (block_of c.in-Then.field-1.value)) c.in-Spawn.is in
+    let rest = block_of c.in-Then.field-2.value in
+    let runs = ap block_of (sym c.deref.ensures ∙ c.in-Then.is) ∙ ap (λ st. Runs (stmt_of st) (block_of c.in-Then.field-2.value)) c.in-Spawn.is in
     step_does c.args.code.now c.args.at p _ rest c.requires.linked c.place_at-place.ensures runs (state_of c.args.memory.now rs) (state_of c.spawn.new.self rs)
     (frames_on c.args.code.now c.args.stack.now.frames.items (lists_of c.args.stack.now)) (ap Goes (sym (c.in_ok-spawn-in-Spawn.ensures.does rs)))
 
 pub returns-in_ok-spawn-in-Spawn-clause-fits : goal.returns-in_ok-spawn-in-Spawn-clause-fits
 returns-in_ok-spawn-in-Spawn-clause-fits c =
     let p = c.place_at-place.result.now in
-    let rest = block_of c.in-Then.field-1.value in
-    let runs = ap block_of (sym c.deref.ensures ∙ c.in-Then.is) ∙ ap (λ st. Runs (stmt_of st) (block_of c.in-Then.field-1.value)) c.in-Spawn.is in
+    let rest = block_of c.in-Then.field-2.value in
+    let runs = ap block_of (sym c.deref.ensures ∙ c.in-Then.is) ∙ ap (λ st. Runs (stmt_of st) (block_of c.in-Then.field-2.value)) c.in-Spawn.is in
     (next_there c.args.code.now c.args.at p _ rest c.requires.linked c.place_at-place.ensures runs, c.requires.fits.1)
