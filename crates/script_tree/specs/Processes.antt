@@ -7,6 +7,7 @@ use Rattle.std.specs.declared.string.String.{String}
 use Rattle.script_tree.specs.Trees.{Block, block_of}
 use Rattle.script_tree.specs.Limits.{Known, KeepsLimits}
 use Rattle.script_tree.specs.declared.process.Proc.{Proc as SeenProc}
+use Rattle.script_tree.specs.declared.tree.Block.{Block as SeenBlock}
 
 -- the bytes of each text
 abbrev pub string_texts : {Z : Type 0} → List (String Z) → List (List ℕ)
@@ -29,6 +30,10 @@ IsProc p = KeepsLimits (known_in p) p.body
 
 abbrev pub proc_of : SeenProc → Proc
 proc_of p = record { name = string_bytes p.name; body = block_of p.body.value; variables = string_texts p.variables.items; channels = p.channels; earlier = p.earlier }
+
+-- the tree of its statements, where it lies in memory and with its lines
+abbrev pub tree_of : SeenProc → SeenBlock
+tree_of p = p.body.value
 
 -- processes of a script with so many channels
 abbrev pub ShareChannels : ℕ → List Proc → Type 0

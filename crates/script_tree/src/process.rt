@@ -26,7 +26,7 @@ impl Proc {
     ghost use Rattle.std.specs.Option.{option_map};
     ghost use Rattle.std.specs.String.{string_bytes};
     ghost use Rattle.script_tree.specs.Limits.{KeepsLimits};
-    ghost use Rattle.script_tree.specs.Processes.{proc_of, IsProc, string_texts};
+    ghost use Rattle.script_tree.specs.Processes.{proc_of, IsProc, string_texts, tree_of};
 
     /// A process whose body keeps the limits, behind so many others: 0 to 63.
     pub fn new(
@@ -58,6 +58,7 @@ impl Proc {
     /// The statements of the process.
     pub fn body(&self) -> &Arc<Block>
         ensures value { block_of result.now.value ≡ (proc_of self.now).body }
+        ensures tree { result.now.value ≡ tree_of self.now }
         ensures limits { IsProc (proc_of self.now) }
         ensures place { (proc_of self.now).earlier < 64 }
     {

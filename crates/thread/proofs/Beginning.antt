@@ -4,16 +4,16 @@ use Rattle.std.proofs.Math.Seq.{drop-length, take-length}
 use Rattle.std.specs.Prelude.{bit_or}
 use Rattle.thread_code.specs.Stages.{Stage, Offered, Performed, Made, stages, stages_of_all}
 use Rattle.thread_code.specs.declared.Code.{Code}
-use Rattle.script_tree.specs.Limits.{nack_count}
-use Rattle.script_tree.specs.Trees.{Event, Sends, Receives, IsReady, IsNever, IsCancelled, IsJoined, Chooses, Wraps, Guards, Nacks, Events, NoMembers, Members, LoopBody}
+use Rattle.thread_code.specs.Lined.{nack_count}
+use Rattle.thread_code.specs.Lined.{Event, Sends, Receives, IsReady, IsNever, IsCancelled, IsJoined, Chooses, Wraps, Guards, Nacks, Events, NoMembers, Members, LoopBody}
 use Rattle.protocol_values.specs.declared.Offer.{Offer}
 use Rattle.thread.specs.declared.stack.Opening.{Opening}
-use Rattle.thread.specs.After.{State, Goes, ◌>>=◌, run_block, synced}
+use Rattle.thread.specs.Standing.{at_line, State, Goes, ◌>>=◌, run_block, synced}
 use Rattle.thread.specs.Fitting.{HasSync, IsOpening}
 use Rattle.thread.specs.Reaches.{event_reach, members_reach, stages_reach}
 use Rattle.thread.specs.Resolving.{Lists, formed_as, no_lists, run_stages}
-use Rattle.thread.specs.Stacks.{Further, offered, opening_on, others, own, sync_at, turn_on}
-use Rattle.thread.proofs.Binding.{bind_assoc}
+use Rattle.thread.specs.Stacks.{Further, offered, reopened_on, others, own, sync_at, turn_on}
+use Rattle.thread.proofs.Going.{bind_assoc}
 use Rattle.thread.proofs.Staging.{resolves_whole}
 
 -- a sync of this plan that begins behind these lists
@@ -27,16 +27,16 @@ pub others_all : (plan : ℕ) (l : Lists) → others (begun plan l) l ≡ l
 others_all plan l = ap₂ (λ os ns. record { offers = os; nacks = ns }) (take-length l.offers) (take-length l.nacks)
 
 -- a turn, stage by stage
-turn_begins : (t : LoopBody) (s : State) → turn_on t s ≡ (run_stages (stages 0 0 t.event) no_lists s >>= offered t)
+turn_begins : (t : LoopBody) (s : State) → turn_on t s ≡ (run_stages t.line (stages 0 0 t.event) no_lists (at_line t.line s) >>= offered t)
 turn_begins t s =
-    let r = run_stages (stages 0 0 t.event) no_lists s in
-    ap (λ x. x >>= synced t.names >>= run_block t.rest) (resolves_whole t.event s)
+    let r = run_stages t.line (stages 0 0 t.event) no_lists (at_line t.line s) in
+    ap (λ x. x >>= synced t.names >>= run_block t.rest) (resolves_whole t.line t.event (at_line t.line s))
     ∙ ap (λ x. x >>= run_block t.rest) (bind_assoc r (λ q. Goes (formed_as t.event q.lists q.state)) (synced t.names))
     ∙ bind_assoc r (λ q. synced t.names (formed_as t.event q.lists q.state)) (run_block t.rest)
 
-pub opening_begins : (c : Code) (plan : ℕ) (below : Further) (l : Lists) (s : State) → opening_on c (begun plan l) below l s ≡ (turn_on (sync_at c plan) s >>= below l)
+pub opening_begins : (c : Code) (plan : ℕ) (below : Further) (l : Lists) (s : State) → reopened_on c (begun plan l) below l s ≡ (turn_on (sync_at c plan) s >>= below l)
 opening_begins c plan below l s =
-    ap₂ (λ m k. run_stages (stages 0 0 (sync_at c plan).event) m s >>= offered (sync_at c plan) >>= below k) (own_none plan l) (others_all plan l)
+    ap₂ (λ m k. run_stages (sync_at c plan).line (stages 0 0 (sync_at c plan).event) m (at_line (sync_at c plan).line s) >>= offered (sync_at c plan) >>= below k) (own_none plan l) (others_all plan l)
     ∙ ap (λ x. x >>= below l) (sym (turn_begins (sync_at c plan) s))
 
 pub opening_fits : (c : Code) (plan : ℕ) (l : Lists) → HasSync c plan → IsOpening c l (begun plan l)

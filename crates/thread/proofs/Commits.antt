@@ -4,7 +4,8 @@ use Rattle.protocol_values.specs.declared.Message.{Message}
 use Rattle.thread.specs.declared.Fault.{Fault}
 use Rattle.thread.specs.declared.memory.Memory.{Memory}
 use Rattle.thread.specs.Values.{list_value}
-use Rattle.thread.specs.After.{Said, State, Chosen, Goes, Fails, ◌>>=◌, given, received, Wrapping, wrapped_once}
+use Rattle.thread.specs.After.{Chosen, Wrapping}
+use Rattle.thread.specs.Standing.{State, Goes, Fails, ◌>>=◌, given, received, wrapped_once}
 use Rattle.thread.specs.Stacks.{state_of, message_after}
 
 -- the list is evaluated once the names are set
@@ -18,6 +19,6 @@ wrap_gives w message s m rs r set is =
     ∙ ap (λ q. given (state_of m rs) q >>= λ changed. Goes (record { message = changed; state = state_of m rs })) (sym is)
     ∙ list_after r m rs
 
-pub wrap_fails : (w : Wrapping) (message : Message) (s : State) (fault : Fault) (said : Said) (left : List Chosen) → received w.names message s ≡ Fails fault said left → wrapped_once (Some w) message s ≡ Fails fault said left
-wrap_fails w message s fault printed left set =
+pub wrap_fails : (w : Wrapping) (message : Message) (s : State) (fault : Fault) (t : State) → received w.names message s ≡ Fails fault t → wrapped_once (Some w) message s ≡ Fails fault t
+wrap_fails w message s fault t set =
     ap (λ x. x >>= λ t. given t (list_value t.store w.list) >>= λ changed. Goes (record { message = changed; state = t })) set

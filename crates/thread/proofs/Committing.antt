@@ -6,12 +6,13 @@ use Rattle.thread_code.specs.Stages.{stages}
 use Rattle.thread_code.specs.declared.Code.{Code}
 use Rattle.thread_code.specs.declared.Plan.{Plan}
 use Rattle.event.specs.Tree.{offers, scope_nacks}
-use Rattle.script_tree.specs.Limits.{base_count}
-use Rattle.script_tree.specs.Trees.{LoopBody, event_of, names_of}
+use Rattle.thread_code.specs.Lined.{base_count}
+use Rattle.script_tree.specs.Trees.{names_of}
+use Rattle.thread_code.specs.Lined.{LoopBody, event_of}
 use Rattle.protocol_values.specs.declared.Message.{Message}
 use Rattle.protocol_values.specs.declared.Offer.{Offer}
 use Rattle.thread.specs.declared.stack.Opening.{Opening}
-use Rattle.thread.specs.After.{State, Outcome, ◌>>=◌, Having, received, run_block}
+use Rattle.thread.specs.Standing.{State, Outcome, ◌>>=◌, Having, received, run_block}
 use Rattle.thread.specs.Fitting.{IsOpening, masks, nacks_made}
 use Rattle.thread.specs.Passing.{Through, Past, pass}
 use Rattle.thread.specs.Resolving.{Lists, tree_as}

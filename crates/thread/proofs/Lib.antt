@@ -1,5 +1,8 @@
 pub mod Binding
 pub mod Taking
+pub mod Going
+pub mod Forgetting
+pub mod Turning
 pub mod Commits
 pub mod Stacking
 pub mod Staging

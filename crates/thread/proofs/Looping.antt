@@ -4,28 +4,28 @@ use Rattle.thread_code.specs.declared.Code.{Code}
 use Rattle.thread.specs.declared.stack.Frame.{Frame}
 use Rattle.thread.specs.declared.stack.Frame.TheVariants.{Times, Endless}
 use Rattle.thread.specs.declared.stack.Opening.{Opening}
-use Rattle.thread.specs.After.{State}
+use Rattle.thread.specs.Standing.{State}
 use Rattle.thread.specs.Fitting.{FramesFit, HasSync, IsOpening}
 use Rattle.thread.specs.Reaches.{frames_reach, loop_reach, opening_reach}
 use Rattle.thread.specs.Resolving.{Lists}
-use Rattle.thread.specs.Stacks.{frames_on, opening_on, others, sync_at, turn_on}
+use Rattle.thread.specs.Stacks.{frames_on, reopened_on, others, sync_at, turn_on}
 use Rattle.thread.proofs.Beginning.{begun, opening_begins, opening_fits, others_all, reach_of}
-use Rattle.thread.proofs.Binding.{bind_each}
+use Rattle.thread.proofs.Going.{bind_each}
 use Rattle.thread.proofs.Stacking.{with_frame_on}
-use Rattle.thread.proofs.Taking.{endless_more, times_more}
+use Rattle.thread.proofs.Turning.{endless_more, times_more}
 
 module _ (c : Code) (whole below again : List Frame) (plan : ℕ) (l : Lists) (o : Opening) (begins : o ≡ begun plan l) where
-  pub times_goes : (n left : ℕ) (s : State) → whole ≡ below ++ Times n plan ∷ [] → again ≡ below ++ Times left plan ∷ [] → n ≡ suc left → opening_on c o (frames_on c again) l s ≡ frames_on c whole l s
+  pub times_goes : (n left : ℕ) (s : State) → whole ≡ below ++ Times n plan ∷ [] → again ≡ below ++ Times left plan ∷ [] → n ≡ suc left → reopened_on c o (frames_on c again) l s ≡ frames_on c whole l s
   times_goes n left s is put more =
-      ap (λ o. opening_on c o (frames_on c again) l s) begins
+      ap (λ o. reopened_on c o (frames_on c again) l s) begins
       ∙ opening_begins c plan (frames_on c again) l s
       ∙ bind_each (turn_on (sync_at c plan) s) _ _ (λ t. with_frame_on c again below (Times left plan) l t put)
       ∙ sym (times_more (sync_at c plan) n left s (frames_on c below l) more)
       ∙ sym (with_frame_on c whole below (Times n plan) l s is)
 
-  pub endless_goes : (s : State) → whole ≡ below ++ Endless plan ∷ [] → again ≡ below ++ Endless plan ∷ [] → opening_on c o (frames_on c again) l s ≡ frames_on c whole l s
+  pub endless_goes : (s : State) → whole ≡ below ++ Endless plan ∷ [] → again ≡ below ++ Endless plan ∷ [] → reopened_on c o (frames_on c again) l s ≡ frames_on c whole l s
   endless_goes s is put =
-      ap (λ o. opening_on c o (frames_on c again) l s) begins
+      ap (λ o. reopened_on c o (frames_on c again) l s) begins
       ∙ opening_begins c plan (frames_on c again) l s
       ∙ bind_each (turn_on (sync_at c plan) s) _ _ (λ t. with_frame_on c again below (Endless plan) l t put)
       ∙ sym (endless_more (sync_at c plan) s (frames_on c below l))

@@ -16,10 +16,9 @@ use Rattle.thread.specs.declared.Fault.{Fault}
 use Rattle.thread.specs.declared.Fault.TheVariants.{Range}
 use Rattle.thread.specs.Values.{Store, expr_value, list_value, test_value, with_names}
 use Rattle.thread.specs.After.{with_printed, with_spawned, State, Chosen, Outcome, Goes, Offers, Finishes, Fails, Strays, ◌>>=◌, given, received, Wrapping, Having, wrapped_once, wrapped, Formed, committed, synced_with, synced, times, send_value, recv_value, always_value, cancelled_value, formed, with_variable, with_nack, as_wrap, as_scope, as_first, run_block, run_stmt, resolve, resolve_all, start, finished, after}
-use Rattle.thread.specs.Stacks.{turn_on}
 use Rattle.thread.proofs.Binding.{IfGoes}
 use Rattle.thread.proofs.Keeping.{Rule, EachOf, BaseOf, MessageOf, ResultsOf, TreeOf, PlaceOf, WrapsAre, StateIs, FormedIs, Keeps, any_block, any_event, any_list, committed_keeps, synced_keeps, block_keeps, event_keeps, AnyText}
-use Rattle.thread.proofs.Taking.{turn_takes}
+use Rattle.thread.proofs.Taking.{turn_on, turn_takes}
 
 module _ (k : ℕ) where
   -- no scope has the nack

@@ -8,19 +8,19 @@ use Rattle.thread_code.specs.declared.Code.{Code}
 use Rattle.thread_code.specs.declared.Plan.{Plan}
 use Rattle.thread_code.specs.declared.Stage.{Stage as SeenStage}
 use Rattle.thread_code.specs.declared.Stage.TheVariants as seen
-use Rattle.script_tree.specs.Trees.{Block, event_of}
+use Rattle.thread_code.specs.Lined.{Block, event_of}
 use Rattle.protocol_values.specs.declared.Base.{Base}
 use Rattle.protocol_values.specs.declared.Offer.{Offer}
 use Rattle.thread.specs.declared.Fault.{Fault}
 use Rattle.thread.specs.declared.stack.Frame.{Frame}
 use Rattle.thread.specs.declared.stack.Frame.TheVariants.{Event}
 use Rattle.thread.specs.declared.stack.Opening.{Opening}
-use Rattle.thread.specs.After.{State, Outcome, Goes, Fails, ◌>>=◌, given, run_block, with_nack}
+use Rattle.thread.specs.Standing.{set_line, State, Outcome, Goes, Fails, ◌>>=◌, given, run_block, with_nack}
 use Rattle.thread.specs.Fitting.{FramesFit, HasPlace, IsOpening, masks, nacks_made}
 use Rattle.thread.specs.Reaches.{frames_reach, opening_reach, stages_reach, stmts_reach}
 use Rattle.thread.specs.Resolving.{Lists, Listed, base_value, run_stage, run_stages, with_offer, with_scope}
 use Rattle.thread.specs.Stacks.{Further, frames_on, offered, opening_on, others, own, place_block, sync_at}
-use Rattle.thread.proofs.Binding.{bind_assoc, bind_each}
+use Rattle.thread.proofs.Going.{bind_assoc, bind_each}
 use Rattle.thread.proofs.Stacking.{at_is, at_there, frame_put, reach_pushed, with_frame_on}
 use Rattle.thread.proofs.Staging.{masks-append, nacks_made-append}
 
@@ -108,6 +108,9 @@ as_scoped l k t = Goes (record { lists = with_scope k l; state = t })
 -- STEPS
 
 module _ (c : Code) (o : Opening) (l : Lists) (plan : Plan) (fits : IsOpening c l o) (there : slice_get c.plans.items o.plan ≡ Some plan) where
+  abbrev line : ℕ
+  line = (sync_at c o.plan).line
+
   abbrev whole : List Stage
   whole = stages 0 0 (sync_at c o.plan).event
 
@@ -116,7 +119,7 @@ module _ (c : Code) (o : Opening) (l : Lists) (plan : Plan) (fits : IsOpening c 
 
   -- behind the last one the sync is open
   pub open_does : (below : Further) (s : State) → slice_get plan.stages.items o.stage ≡ None → (offered (sync_at c o.plan) (record { lists = own o l; state = s }) >>= below (others o l)) ≡ opening_on c o below l s
-  open_does below s none = ap (λ ss. run_stages ss (own o l) s >>= offered (sync_at c o.plan) >>= below (others o l)) (sym (no_stage c plan.stages.items whole o.stage are none).1)
+  open_does below s none = ap (λ ss. run_stages line ss (own o l) s >>= offered (sync_at c o.plan) >>= below (others o l)) (sym (no_stage c plan.stages.items whole o.stage are none).1)
 
   pub open_whole : slice_get plan.stages.items o.stage ≡ None → o.stage ≡ length whole
   open_whole none = omega (arith, fits.stage, (no_stage c plan.stages.items whole o.stage are none).0)
@@ -127,9 +130,9 @@ module _ (c : Code) (o : Opening) (l : Lists) (plan : Plan) (fits : IsOpening c 
 
     -- what a stage and those behind it do
     stage_does : (below : Further) (s : State) (stage : Stage) → here.stage ≡ stage →
-        opening_on c o below l s ≡ (run_stage stage (own o l) s >>= (λ r. run_stages (drop (o.stage + 1) whole) r.lists r.state) >>= offered (sync_at c o.plan) >>= below (others o l))
+        opening_on c o below l s ≡ (run_stage line stage (own o l) s >>= (λ r. run_stages line (drop (o.stage + 1) whole) r.lists r.state) >>= offered (sync_at c o.plan) >>= below (others o l))
     stage_does below s stage is =
-        ap (λ ss. run_stages ss (own o l) s >>= offered (sync_at c o.plan) >>= below (others o l)) (here.here ∙ ap (λ st. st ∷ drop (o.stage + 1) whole) is)
+        ap (λ ss. run_stages line ss (own o l) s >>= offered (sync_at c o.plan) >>= below (others o l)) (here.here ∙ ap (λ st. st ∷ drop (o.stage + 1) whole) is)
 
     stage_falls : (stage : Stage) → here.stage ≡ stage → opening_reach c o ≡ 1 + stages_reach (stage ∷ drop (o.stage + 1) whole)
     stage_falls stage is = ap (λ ss. 1 + stages_reach ss) (here.here ∙ ap (λ st. st ∷ drop (o.stage + 1) whole) is)
@@ -145,18 +148,18 @@ module _ (c : Code) (o : Opening) (l : Lists) (plan : Plan) (fits : IsOpening c 
     offers : (here (seen.Offer event mask) at).stage ≡ Offered (event_of event.value) mask
     offers = offer_stage c event mask _ (here (seen.Offer event mask) at).is
 
-    pub offer_fails : (below : Further) (s : State) (fault : Fault) → base_value s.store (event_of event.value) ≡ Err fault → Fails fault s.said s.left ≡ opening_on c o below l s
+    pub offer_fails : (below : Further) (s : State) (fault : Fault) → base_value s.store (event_of event.value) ≡ Err fault → Fails fault s ≡ opening_on c o below l s
     offer_fails below s fault is =
         sym (stage_does (seen.Offer event mask) at below s _ offers
-        ∙ ap (λ v. given s v >>= as_offered (own o l) mask s >>= (λ r. run_stages (drop (o.stage + 1) whole) r.lists r.state) >>= offered (sync_at c o.plan) >>= below (others o l)) is)
+        ∙ ap (λ v. given s v >>= as_offered (own o l) mask s >>= (λ r. run_stages line (drop (o.stage + 1) whole) r.lists r.state) >>= offered (sync_at c o.plan) >>= below (others o l)) is)
 
     module _ (base : Base) (m : Lists) (put : m ≡ with_offer base mask l) where
       pub offer_does : (below : Further) (s : State) → base_value s.store (event_of event.value) ≡ Ok base → opening_on c (next o) below m s ≡ opening_on c o below l s
       offer_does below s is =
-          ap₂ (λ (p q : Lists). run_stages (drop (o.stage + 1) whole) p s >>= offered (sync_at c o.plan) >>= below q)
+          ap₂ (λ (p q : Lists). run_stages line (drop (o.stage + 1) whole) p s >>= offered (sync_at c o.plan) >>= below q)
           (ap (own o) put ∙ own_offer o l (record { base = base; scopes = mask }) fits.first_offer) (ap (others o) put ∙ others_offer o l (record { base = base; scopes = mask }) fits.first_offer)
           ∙ sym (stage_does (seen.Offer event mask) at below s _ offers
-          ∙ ap (λ v. given s v >>= as_offered (own o l) mask s >>= (λ r. run_stages (drop (o.stage + 1) whole) r.lists r.state) >>= offered (sync_at c o.plan) >>= below (others o l)) is)
+          ∙ ap (λ v. given s v >>= as_offered (own o l) mask s >>= (λ r. run_stages line (drop (o.stage + 1) whole) r.lists r.state) >>= offered (sync_at c o.plan) >>= below (others o l)) is)
 
       pub offer_falls : opening_reach c (next o) < opening_reach c o
       offer_falls = omega (arith, stage_falls (seen.Offer event mask) at _ offers)
@@ -186,14 +189,16 @@ module _ (c : Code) (o : Opening) (l : Lists) (plan : Plan) (fits : IsOpening c 
     pub body_does : (s : State) → (run_block (place_block c q) s >>= frames_on c new l) ≡ opening_on c o (frames_on c old) l s
     body_does s =
         let b = body.0 in
-        let more : Listed → Outcome Listed = λ r. run_stages (drop (o.stage + 1) whole) r.lists r.state in
+        let performed = run_block b s >>= set_line line in
+        let more : Listed → Outcome Listed = λ r. run_stages line (drop (o.stage + 1) whole) r.lists r.state in
         let entered : State → Outcome Listed = λ t. Goes (record { lists = own o l; state = t }) in
         ap (λ b. run_block b s >>= frames_on c new l) (at_is c q b body.2)
         ∙ bind_each (run_block b s) _ _ (λ t. with_frame_on c new old (Event (next o)) l t put)
+        ∙ sym (bind_assoc (run_block b s) (set_line line) (opening_on c (next o) (frames_on c old) l))
         ∙ sym (stage_does (seen.Body q) at (frames_on c old) s _ body.1
-        ∙ ap (λ x. x >>= offered (sync_at c o.plan) >>= frames_on c old (others o l)) (bind_assoc (run_block b s) entered more)
-        ∙ ap (λ x. x >>= frames_on c old (others o l)) (bind_assoc (run_block b s) (λ t. more (record { lists = own o l; state = t })) (offered (sync_at c o.plan)))
-        ∙ bind_assoc (run_block b s) (λ t. more (record { lists = own o l; state = t }) >>= offered (sync_at c o.plan)) (frames_on c old (others o l)))
+        ∙ ap (λ x. x >>= offered (sync_at c o.plan) >>= frames_on c old (others o l)) (bind_assoc performed entered more)
+        ∙ ap (λ x. x >>= frames_on c old (others o l)) (bind_assoc performed (λ t. more (record { lists = own o l; state = t })) (offered (sync_at c o.plan)))
+        ∙ bind_assoc performed (λ t. more (record { lists = own o l; state = t }) >>= offered (sync_at c o.plan)) (frames_on c old (others o l)))
 
     pub body_falls : stmts_reach (place_block c q) + frames_reach c new < opening_reach c o
     body_falls = omega (arith, ap stmts_reach (at_is c q body.0 body.2), reach_pushed c new old (Event (next o)) put, stage_falls (seen.Body q) at _ body.1)
@@ -219,18 +224,18 @@ module _ (c : Code) (o : Opening) (l : Lists) (plan : Plan) (fits : IsOpening c 
     makes : (here (seen.Nack name) at).stage ≡ Made name
     makes = nack_stage c name _ (here (seen.Nack name) at).is
 
-    pub nack_fails : (below : Further) (s : State) (fault : Fault) → with_nack name s ≡ Fails fault s.said s.left → Fails fault s.said s.left ≡ opening_on c o below l s
+    pub nack_fails : (below : Further) (s : State) (fault : Fault) → with_nack name s ≡ Fails fault s → Fails fault s ≡ opening_on c o below l s
     nack_fails below s fault is =
         sym (stage_does (seen.Nack name) at below s _ makes
-        ∙ ap (λ x. x >>= as_scoped (own o l) s.nacks >>= (λ r. run_stages (drop (o.stage + 1) whole) r.lists r.state) >>= offered (sync_at c o.plan) >>= below (others o l)) is)
+        ∙ ap (λ x. x >>= as_scoped (own o l) s.nacks >>= (λ r. run_stages line (drop (o.stage + 1) whole) r.lists r.state) >>= offered (sync_at c o.plan) >>= below (others o l)) is)
 
     module _ (k : ℕ) (m : Lists) (put : m ≡ with_scope k l) where
       pub nack_does : (below : Further) (s t : State) → s.nacks ≡ k → with_nack name s ≡ Goes t → opening_on c (next o) below m t ≡ opening_on c o below l s
       nack_does below s t same is =
-          ap₂ (λ (p q : Lists). run_stages (drop (o.stage + 1) whole) p t >>= offered (sync_at c o.plan) >>= below q)
+          ap₂ (λ (p q : Lists). run_stages line (drop (o.stage + 1) whole) p t >>= offered (sync_at c o.plan) >>= below q)
           (ap (own o) put ∙ own_scope o l k fits.first_nack ∙ ap (λ n. with_scope n (own o l)) (sym same)) (ap (others o) put ∙ others_scope o l k fits.first_nack)
           ∙ sym (stage_does (seen.Nack name) at below s _ makes
-          ∙ ap (λ x. x >>= as_scoped (own o l) s.nacks >>= (λ r. run_stages (drop (o.stage + 1) whole) r.lists r.state) >>= offered (sync_at c o.plan) >>= below (others o l)) is)
+          ∙ ap (λ x. x >>= as_scoped (own o l) s.nacks >>= (λ r. run_stages line (drop (o.stage + 1) whole) r.lists r.state) >>= offered (sync_at c o.plan) >>= below (others o l)) is)
 
       pub nack_falls : opening_reach c (next o) < opening_reach c o
       nack_falls = omega (arith, stage_falls (seen.Nack name) at _ makes)

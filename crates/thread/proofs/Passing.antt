@@ -4,16 +4,17 @@ use Rattle.std.specs.Option.{option_map}
 use Rattle.std.specs.Prelude.{⊤}
 use Rattle.event.proofs.TreeLemmas.{wraps_at-first, wraps_at-second, wraps_at-Wrap, wraps_at-Scope, base_count-Or, base_count-Wrap, base_count-Scope}
 use Rattle.event.specs.Tree.{Tree, Single, Or, wraps_at, base_count as bases_in}
-use Rattle.script_tree.specs.Limits.{base_count, bases_of_all, nack_count}
-use Rattle.script_tree.specs.Trees.{Event, Sends, Receives, IsReady, IsNever, IsCancelled, IsJoined, Chooses, Wraps, Guards, Nacks, Events, NoMembers, Members}
+use Rattle.thread_code.specs.Lined.{base_count, bases_of_all, nack_count}
+use Rattle.thread_code.specs.Lined.{Event, Sends, Receives, IsReady, IsNever, IsCancelled, IsJoined, Chooses, Wraps, Guards, Nacks, Events, NoMembers, Members}
 use Rattle.protocol_values.specs.declared.Base.{Base}
 use Rattle.protocol_values.specs.declared.Base.TheVariants.{Never}
 use Rattle.protocol_values.specs.declared.Message.{Message}
-use Rattle.thread.specs.After.{State, Outcome, Goes, Offers, Finishes, Fails, Strays, ◌>>=◌, Having, Wrapping, committed, received, wrapped, wrapped_once}
+use Rattle.thread.specs.After.{Wrapping}
+use Rattle.thread.specs.Standing.{State, Outcome, Goes, Offers, Finishes, Fails, Strays, ◌>>=◌, Having, committed, received, wrapped, wrapped_once}
 use Rattle.thread.specs.Passing.{Passage, Through, Past, or_else, pass, pass_all, passed, wrapped_in}
 use Rattle.thread.specs.Resolving.{Lists, formed_as, tree_as}
 use Rattle.thread.specs.Shapes.{choice_with, tree_with, wraps_in, wraps_in_all}
-use Rattle.thread.proofs.Binding.{bind_assoc, bind_each}
+use Rattle.thread.proofs.Going.{bind_assoc, bind_each}
 
 -- one more wrap
 wrapped_then : (all : List Wrapping) (ns : List ℕ) (w : ℕ) (m : Message) (s : State) → wrapped all (ns ++ w ∷ []) m s ≡ (wrapped all ns m s >>= λ h. wrapped_once (slice_get all w) h.message h.state)
@@ -21,9 +22,9 @@ wrapped_then all [] w m s = again (wrapped_once (slice_get all w) m s)
   where
     again : (x : Outcome Having) → (x >>= λ h. Goes (record { message = h.message; state = h.state })) ≡ x
     again (Goes h) = refl
-    again (Offers tree printed) = refl
-    again (Finishes printed left) = refl
-    again (Fails fault printed left) = refl
+    again (Offers tree at) = refl
+    again (Finishes at) = refl
+    again (Fails fault at) = refl
     again Strays = refl
 wrapped_then all (n ∷ ns) w m s =
     bind_each (wrapped_once (slice_get all n) m s) _ _ (λ h. wrapped_then all ns w h.message h.state)

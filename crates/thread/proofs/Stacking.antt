@@ -5,12 +5,12 @@ use Rattle.std.specs.Option.{option_map}
 use Rattle.thread_code.specs.Codes.{BlockLeads, HasPlan, IsAt, IsLinked, StmtLeads}
 use Rattle.thread_code.specs.declared.Code.{Code}
 use Rattle.thread_code.specs.declared.Place.{Place}
-use Rattle.script_tree.specs.Trees.{Block, Runs, Stmt, Event, LoopBody, block_of}
+use Rattle.thread_code.specs.Lined.{Block, Runs, Stmt, Event, LoopBody, block_of}
 use Rattle.thread.specs.declared.stack.Frame.{Frame}
 use Rattle.thread.specs.Fitting.{FrameFits, FramesFit, HasPlace, HasSync}
 use Rattle.thread.specs.Reaches.{frame_reach, frames_reach}
 use Rattle.thread.specs.Resolving.{Lists}
-use Rattle.thread.specs.After.{State}
+use Rattle.thread.specs.Standing.{State}
 use Rattle.thread.specs.Stacks.{frame_on, frames_on, or_stops, place_block, planned, stacked, sync_at}
 
 -- FRAMES
@@ -43,17 +43,17 @@ has_place c at block None is h = absurd (none-some block h)
 pub at_there : (c : Code) (at : ℕ) (block : Block) → IsAt c at block → HasPlace c at
 at_there c at block h = has_place c at block (slice_get c.places.items at) refl h
 
-pub sync_is : (c : Code) (number : ℕ) (names : Option (List ℕ)) (event : Event) (rest : Block) → HasPlan c number names event rest → sync_at c number ≡ record { names = names; event = event; rest = rest }
-sync_is c number names event rest h =
-    ap (planned c) h.there ∙ rw (h.is.names, h.is.event, at_is c h.plan.then rest h.is.then) refl
+pub sync_is : (c : Code) (number line : ℕ) (names : Option (List ℕ)) (event : Event) (rest : Block) → HasPlan c number line names event rest → sync_at c number ≡ record { line = line; names = names; event = event; rest = rest }
+sync_is c number line names event rest h =
+    ap (planned c) h.there ∙ rw (h.is.line_is, h.is.names, h.is.event, at_is c h.plan.then rest h.is.then) refl
 
-pub has_sync : (c : Code) (number : ℕ) (names : Option (List ℕ)) (event : Event) (rest : Block) → HasPlan c number names event rest → HasSync c number
-has_sync c number names event rest h =
-    subst (λ (t : LoopBody). HasPlan c number t.names t.event t.rest) (sym (sync_is c number names event rest h)) h
+pub has_sync : (c : Code) (number line : ℕ) (names : Option (List ℕ)) (event : Event) (rest : Block) → HasPlan c number line names event rest → HasSync c number
+has_sync c number line names event rest h =
+    subst (λ (t : LoopBody). HasPlan c number t.line t.names t.event t.rest) (sym (sync_is c number line names event rest h)) h
 
 -- what a place of a linked code leads to
-pub leads_at : (c : Code) (at : ℕ) (p : Place) (stmt : Stmt) (rest : Block) → IsLinked c → slice_get c.places.items at ≡ Some p → block_of p.block.value ≡ Runs stmt rest → IsAt c p.next rest × StmtLeads c p stmt rest
-leads_at c at p stmt rest linked there is = subst (BlockLeads c p) is (linked at p there)
+pub leads_at : (c : Code) (at : ℕ) (p : Place) (stmt : Stmt) (line : ℕ) (rest : Block) → IsLinked c → slice_get c.places.items at ≡ Some p → block_of p.block.value ≡ Runs stmt line rest → IsAt c p.next rest × StmtLeads c p line stmt rest
+leads_at c at p stmt line rest linked there is = subst (BlockLeads c p) is (linked at p there)
 
 -- GOING BACK TO A FRAME, OR PUTTING ONE ON
 

@@ -6,17 +6,18 @@ use Rattle.std.proofs.Math.ListN.{get_or-append}
 use Rattle.std.specs.Prelude.{⊤, bit_or}
 use Rattle.thread_code.specs.Stages.{Stage, Offered, Performed, Made, stages, stages_of_all}
 use Rattle.event.specs.Tree.{Single, Nothing, Or, Wrap, Scope}
-use Rattle.script_tree.specs.Limits.{base_count, nack_count, bases_of_all, nacks_of_all}
-use Rattle.script_tree.specs.Trees.{Event, Sends, Receives, IsReady, IsNever, IsCancelled, IsJoined, Chooses, Wraps, Guards, Nacks, Events, NoMembers, Members, Block}
+use Rattle.thread_code.specs.Lined.{base_count, nack_count, bases_of_all, nacks_of_all}
+use Rattle.thread_code.specs.Lined.{Event, Sends, Receives, IsReady, IsNever, IsCancelled, IsJoined, Chooses, Wraps, Guards, Nacks, Events, NoMembers, Members, Block}
 use Rattle.protocol_values.specs.declared.Base.{Base}
 use Rattle.protocol_values.specs.declared.Base.TheVariants.{Never}
 use Rattle.protocol_values.specs.declared.Offer.{Offer}
 use Rattle.thread.specs.declared.Fault.{Fault}
-use Rattle.thread.specs.After.{State, Outcome, Goes, ◌>>=◌, Formed, Wrapping, given, formed, with_nack, as_wrap, as_scope, as_first, run_block, resolve, resolve_all}
+use Rattle.thread.specs.After.{Wrapping}
+use Rattle.thread.specs.Standing.{set_line, State, Outcome, Goes, ◌>>=◌, Formed, given, formed, with_nack, as_wrap, as_scope, as_first, run_block, resolve, resolve_all}
 use Rattle.thread.specs.Fitting.{masks, nacks_made}
 use Rattle.thread.specs.Resolving.{Lists, Listed, base_value, formed_as, no_lists, run_stage, run_stages, with_offer, with_scope}
 use Rattle.thread.specs.Shapes.{choice_with, tree_with, wraps_in, wraps_in_all}
-use Rattle.thread.proofs.Binding.{IfGoes, bind_assoc, bind_each, bind_goes, bind_same, given_goes, goes_anyhow, goes_weaker}
+use Rattle.thread.proofs.Going.{IfGoes, bind_assoc, bind_each, bind_goes, bind_same, given_goes, goes_anyhow, goes_weaker}
 
 -- LISTS
 
@@ -34,42 +35,6 @@ joined_assoc l m n = ap₂ (λ os ns. record { offers = os; nacks = ns }) (appen
 
 abbrev behind : Lists → Listed → Listed
 behind l r = record r { lists = joined l r.lists }
-
--- STAGES
-
--- a stage puts what it makes behind what is there
-stage_behind : (stage : Stage) (l : Lists) (s : State) → run_stage stage l s ≡ (run_stage stage no_lists s >>= λ r. Goes (behind l r))
-stage_behind (Offered event scopes) l s =
-    sym (bind_assoc (given s (base_value s.store event)) _ _ ∙ bind_each (given s (base_value s.store event)) _ _ (λ base. ap (λ ns. Goes (record { lists = record { offers = l.offers ++ record { base = base; scopes = scopes } ∷ []; nacks = ns }; state = s })) (append-nil l.nacks)))
-stage_behind (Performed body) l s =
-    sym (bind_assoc (run_block body s) _ _ ∙ bind_each (run_block body s) _ _ (λ t. ap (λ m. Goes (record { lists = m; state = t })) (joined_nothing l)))
-stage_behind (Made name) l s =
-    sym (bind_assoc (with_nack name s) _ _ ∙ bind_each (with_nack name s) _ _ (λ t. ap (λ os. Goes (record { lists = record { offers = os; nacks = l.nacks ++ s.nacks ∷ [] }; state = t })) (append-nil l.offers)))
-
-abbrev pub AreBehind : List Stage → Type 0
-AreBehind ss = (l : Lists) (s : State) → run_stages ss l s ≡ (run_stages ss no_lists s >>= λ r. Goes (behind l r))
-
-more_behind : (ss : List Stage) → AreBehind ss → (l : Lists) (r : Listed) → run_stages ss (joined l r.lists) r.state ≡ (run_stages ss r.lists r.state >>= λ q. Goes (behind l q))
-more_behind ss are l r =
-    are (joined l r.lists) r.state
-    ∙ bind_each (run_stages ss no_lists r.state) _ _ (λ q. ap (λ m. Goes (record q { lists = m })) (joined_assoc l r.lists q.lists))
-    ∙ sym (bind_assoc (run_stages ss no_lists r.state) (λ q. Goes (behind r.lists q)) (λ q. Goes (behind l q)))
-    ∙ ap (λ x. x >>= λ q. Goes (behind l q)) (sym (are r.lists r.state))
-
-pub stages_behind : (ss : List Stage) → AreBehind ss
-stages_behind [] l s = ap (λ m. Goes (record { lists = m; state = s })) (sym (joined_nothing l))
-stages_behind (stage ∷ ss) l s =
-    ap (λ x. x >>= λ r. run_stages ss r.lists r.state) (stage_behind stage l s)
-    ∙ bind_assoc (run_stage stage no_lists s) (λ r. Goes (behind l r)) (λ r. run_stages ss r.lists r.state)
-    ∙ bind_each (run_stage stage no_lists s) _ _ (more_behind ss (stages_behind ss) l)
-    ∙ sym (bind_assoc (run_stage stage no_lists s) (λ r. run_stages ss r.lists r.state) (λ r. Goes (behind l r)))
-
--- some stages, and then others
-pub stages_then : (ss more : List Stage) (l : Lists) (s : State) → run_stages (ss ++ more) l s ≡ (run_stages ss l s >>= λ r. run_stages more r.lists r.state)
-stages_then [] more l s = refl
-stages_then (stage ∷ ss) more l s =
-    bind_each (run_stage stage l s) _ _ (λ r. stages_then ss more r.lists r.state)
-    ∙ sym (bind_assoc (run_stage stage l s) (λ r. run_stages ss r.lists r.state) (λ r. run_stages more r.lists r.state))
 
 -- COUNTS
 
@@ -129,29 +94,6 @@ mutual
 abbrev pub Counts : ℕ → ℕ → Listed → Type 0
 Counts bases nacks r = (length r.lists.offers ≡ bases) × (length r.lists.nacks ≡ nacks)
 
-stages_count : (ss : List Stage) (l : Lists) (s : State) → IfGoes (run_stages ss l s) (Counts (length l.offers + length (masks ss)) (length l.nacks + nacks_made ss))
-stages_count [] l s = (omega arith, omega arith)
-stages_count (Offered event scopes ∷ ss) l s =
-    let C = Counts (length l.offers + length (masks (Offered event scopes ∷ ss))) (length l.nacks + nacks_made ss) in
-    bind_goes (run_stage (Offered event scopes) l s) _ (Counts (length l.offers + 1) (length l.nacks)) C
-    (bind_goes (given s (base_value s.store event)) _ (λ _. ⊤) (Counts (length l.offers + 1) (length l.nacks)) (given_goes s _) (λ base h. (length-append l.offers _, refl)))
-    (λ r h. goes_weaker (run_stages ss r.lists r.state) _ C (λ q k. (omega (arith, k.0, h.0), omega (arith, k.1, h.1))) (stages_count ss r.lists r.state))
-stages_count (Performed body ∷ ss) l s =
-    let C = Counts (length l.offers + length (masks ss)) (length l.nacks + nacks_made ss) in
-    bind_goes (run_stage (Performed body) l s) _ (Counts (length l.offers) (length l.nacks)) C
-    (bind_goes (run_block body s) _ (λ _. ⊤) (Counts (length l.offers) (length l.nacks)) (goes_anyhow (run_block body s)) (λ t h. (refl, refl)))
-    (λ r h. goes_weaker (run_stages ss r.lists r.state) _ C (λ q k. (omega (arith, k.0, h.0), omega (arith, k.1, h.1))) (stages_count ss r.lists r.state))
-stages_count (Made name ∷ ss) l s =
-    let C = Counts (length l.offers + length (masks ss)) (length l.nacks + nacks_made (Made name ∷ ss)) in
-    bind_goes (run_stage (Made name) l s) _ (Counts (length l.offers) (length l.nacks + 1)) C
-    (bind_goes (with_nack name s) _ (λ _. ⊤) (Counts (length l.offers) (length l.nacks + 1)) (goes_anyhow (with_nack name s)) (λ t h. (refl, length-append l.nacks _)))
-    (λ r h. goes_weaker (run_stages ss r.lists r.state) _ C (λ q k. (omega (arith, k.0, h.0), omega (arith, k.1, h.1))) (stages_count ss r.lists r.state))
-
-event_counts : (a n : ℕ) (e : Event) (s : State) → IfGoes (run_stages (stages a n e) no_lists s) (Counts (base_count e) (nack_count e))
-event_counts a n e s =
-    goes_weaker (run_stages (stages a n e) no_lists s) _ (Counts (base_count e) (nack_count e))
-    (λ r h. (omega (arith, h.0, offers_of a n e), omega (arith, h.1, nacks_of a n e))) (stages_count (stages a n e) no_lists s)
-
 -- WHAT BELONGS TO OTHERS
 
 -- an event takes its base events and its nacks from the front
@@ -180,115 +122,180 @@ mutual
 behind_front : {A : Type 0} (k : ℕ) (xs ys : List A) → length xs ≡ k → drop k (xs ++ ys) ≡ ys
 behind_front k xs ys h = ap (λ n. drop n (xs ++ ys)) (sym h) ∙ drop-append_seam xs ys
 
--- EVENTS
+module _ (line : ℕ) where
+  -- the body of a guard or a nack, and then the line of the sync
+  abbrev performed : Block → State → Outcome State
+  performed body s = run_block body s >>= set_line line
 
-abbrev formed_by : Event → List Wrapping → Listed → Formed
-formed_by e ws r = record { tree = tree_with (length ws) e (bases_of r.lists) r.lists.nacks; wraps = ws ++ wraps_in e; state = r.state }
+  -- STAGES
 
-abbrev chosen_by : Events → List Wrapping → Listed → Formed
-chosen_by es ws r = record { tree = choice_with (length ws) es (bases_of r.lists) r.lists.nacks; wraps = ws ++ wraps_in_all es; state = r.state }
+  -- a stage puts what it makes behind what is there
+  stage_behind : (stage : Stage) (l : Lists) (s : State) → run_stage line stage l s ≡ (run_stage line stage no_lists s >>= λ r. Goes (behind l r))
+  stage_behind (Offered event scopes) l s =
+      sym (bind_assoc (given s (base_value s.store event)) _ _ ∙ bind_each (given s (base_value s.store event)) _ _ (λ base. ap (λ ns. Goes (record { lists = record { offers = l.offers ++ record { base = base; scopes = scopes } ∷ []; nacks = ns }; state = s })) (append-nil l.nacks)))
+  stage_behind (Performed body) l s =
+      sym (bind_assoc (performed body s) _ _ ∙ bind_each (performed body s) _ _ (λ t. ap (λ m. Goes (record { lists = m; state = t })) (joined_nothing l)))
+  stage_behind (Made name) l s =
+      sym (bind_assoc (with_nack name s) _ _ ∙ bind_each (with_nack name s) _ _ (λ t. ap (λ os. Goes (record { lists = record { offers = os; nacks = l.nacks ++ s.nacks ∷ [] }; state = t })) (append-nil l.offers)))
 
-abbrev as_offered : ℕ → State → Base → Outcome Listed
-as_offered a s base = Goes (record { lists = with_offer base a no_lists; state = s })
+  abbrev pub AreBehind : List Stage → Type 0
+  AreBehind ss = (l : Lists) (s : State) → run_stages line ss l s ≡ (run_stages line ss no_lists s >>= λ r. Goes (behind l r))
 
-abbrev as_single : List Wrapping → Listed → Outcome Formed
-as_single ws r = Goes (record { tree = Single (get_or (bases_of r.lists) 0 Never); wraps = ws ++ []; state = r.state })
+  more_behind : (ss : List Stage) → AreBehind ss → (l : Lists) (r : Listed) → run_stages line ss (joined l r.lists) r.state ≡ (run_stages line ss r.lists r.state >>= λ q. Goes (behind l q))
+  more_behind ss are l r =
+      are (joined l r.lists) r.state
+      ∙ bind_each (run_stages line ss no_lists r.state) _ _ (λ q. ap (λ m. Goes (record q { lists = m })) (joined_assoc l r.lists q.lists))
+      ∙ sym (bind_assoc (run_stages line ss no_lists r.state) (λ q. Goes (behind r.lists q)) (λ q. Goes (behind l q)))
+      ∙ ap (λ x. x >>= λ q. Goes (behind l q)) (sym (are r.lists r.state))
 
-base_forms : (v : Result Base Fault) (a : ℕ) (ws : List Wrapping) (s : State) → (given s v >>= formed ws s)
-    ≡ (given s v >>= as_offered a s >>= (λ r. run_stages [] r.lists r.state) >>= as_single ws)
-base_forms (Ok base) a ws s = ap (λ w. Goes (record { tree = Single base; wraps = w; state = s })) (sym (append-nil ws))
-base_forms (Err fault) a ws s = refl
+  pub stages_behind : (ss : List Stage) → AreBehind ss
+  stages_behind [] l s = ap (λ m. Goes (record { lists = m; state = s })) (sym (joined_nothing l))
+  stages_behind (stage ∷ ss) l s =
+      ap (λ x. x >>= λ r. run_stages line ss r.lists r.state) (stage_behind stage l s)
+      ∙ bind_assoc (run_stage line stage no_lists s) (λ r. Goes (behind l r)) (λ r. run_stages line ss r.lists r.state)
+      ∙ bind_each (run_stage line stage no_lists s) _ _ (more_behind ss (stages_behind ss) l)
+      ∙ sym (bind_assoc (run_stage line stage no_lists s) (λ r. run_stages line ss r.lists r.state) (λ r. Goes (behind l r)))
 
--- a guard, and then the event
-guard_forms : (ss : List Stage) (body : Block) (event : State → Outcome Formed) (f : Listed → Formed) (s : State) → ((t : State) → event t ≡ (run_stages ss no_lists t >>= λ r. Goes (f r))) →
-    (run_block body s >>= event) ≡ (run_stages (Performed body ∷ ss) no_lists s >>= λ r. Goes (f r))
-guard_forms ss body event f s same =
-    bind_each (run_block body s) event (λ t. run_stages ss no_lists t >>= λ r. Goes (f r)) same
-    ∙ sym (bind_assoc (run_stage (Performed body) no_lists s) (λ r. run_stages ss r.lists r.state) (λ r. Goes (f r)) ∙ bind_assoc (run_block body s) (λ t. Goes (record { lists = no_lists; state = t })) (λ r. run_stages ss r.lists r.state >>= λ q. Goes (f q)))
+  -- some stages, and then others
+  pub stages_then : (ss more : List Stage) (l : Lists) (s : State) → run_stages line (ss ++ more) l s ≡ (run_stages line ss l s >>= λ r. run_stages line more r.lists r.state)
+  stages_then [] more l s = refl
+  stages_then (stage ∷ ss) more l s =
+      bind_each (run_stage line stage l s) _ _ (λ r. stages_then ss more r.lists r.state)
+      ∙ sym (bind_assoc (run_stage line stage l s) (λ r. run_stages line ss r.lists r.state) (λ r. run_stages line more r.lists r.state))
 
--- a nack's block and its event
-nack_forms : (ss : List Stage) (body : Block) (event : State → Outcome Formed) (f g : Listed → Formed) (k : ℕ) (t : State) →
-    ((u : State) → event u ≡ (run_stages ss no_lists u >>= λ r. Goes (f r))) → ((r : Listed) → as_scope k (f r) ≡ Goes (g (behind (with_scope k no_lists) r))) →
-    (run_block body t >>= λ u. event u >>= as_scope k) ≡ (run_stages (Performed body ∷ ss) (with_scope k no_lists) t >>= λ r. Goes (g r))
-nack_forms ss body event f g k t same scoped =
-    let l = with_scope k no_lists in
-    bind_each (run_block body t) _ (λ u. run_stages ss l u >>= λ r. Goes (g r)) (λ u.
-    ap (λ x. x >>= as_scope k) (same u)
-    ∙ bind_assoc (run_stages ss no_lists u) (λ r. Goes (f r)) (as_scope k)
-    ∙ bind_each (run_stages ss no_lists u) _ _ scoped
-    ∙ sym (bind_assoc (run_stages ss no_lists u) (λ r. Goes (behind l r)) (λ r. Goes (g r)))
-    ∙ ap (λ x. x >>= λ r. Goes (g r)) (sym (stages_behind ss l u)))
-    ∙ sym (bind_assoc (run_stage (Performed body) l t) (λ r. run_stages ss r.lists r.state) (λ r. Goes (g r)) ∙ bind_assoc (run_block body t) (λ u. Goes (record { lists = l; state = u })) (λ r. run_stages ss r.lists r.state >>= λ q. Goes (g q)))
+  stages_count : (ss : List Stage) (l : Lists) (s : State) → IfGoes (run_stages line ss l s) (Counts (length l.offers + length (masks ss)) (length l.nacks + nacks_made ss))
+  stages_count [] l s = (omega arith, omega arith)
+  stages_count (Offered event scopes ∷ ss) l s =
+      let C = Counts (length l.offers + length (masks (Offered event scopes ∷ ss))) (length l.nacks + nacks_made ss) in
+      bind_goes (run_stage line (Offered event scopes) l s) _ (Counts (length l.offers + 1) (length l.nacks)) C
+      (bind_goes (given s (base_value s.store event)) _ (λ _. ⊤) (Counts (length l.offers + 1) (length l.nacks)) (given_goes s _) (λ base h. (length-append l.offers _, refl)))
+      (λ r h. goes_weaker (run_stages line ss r.lists r.state) _ C (λ q k. (omega (arith, k.0, h.0), omega (arith, k.1, h.1))) (stages_count ss r.lists r.state))
+  stages_count (Performed body ∷ ss) l s =
+      let C = Counts (length l.offers + length (masks ss)) (length l.nacks + nacks_made ss) in
+      bind_goes (run_stage line (Performed body) l s) _ (Counts (length l.offers) (length l.nacks)) C
+      (bind_goes (performed body s) _ (λ _. ⊤) (Counts (length l.offers) (length l.nacks)) (goes_anyhow (performed body s)) (λ t h. (refl, refl)))
+      (λ r h. goes_weaker (run_stages line ss r.lists r.state) _ C (λ q k. (omega (arith, k.0, h.0), omega (arith, k.1, h.1))) (stages_count ss r.lists r.state))
+  stages_count (Made name ∷ ss) l s =
+      let C = Counts (length l.offers + length (masks ss)) (length l.nacks + nacks_made (Made name ∷ ss)) in
+      bind_goes (run_stage line (Made name) l s) _ (Counts (length l.offers) (length l.nacks + 1)) C
+      (bind_goes (with_nack name s) _ (λ _. ⊤) (Counts (length l.offers) (length l.nacks + 1)) (goes_anyhow (with_nack name s)) (λ t h. (refl, length-append l.nacks _)))
+      (λ r h. goes_weaker (run_stages line ss r.lists r.state) _ C (λ q k. (omega (arith, k.0, h.0), omega (arith, k.1, h.1))) (stages_count ss r.lists r.state))
 
--- an event, and then the others of its choice
-members_form : (ss more : List Stage) (first : State → Outcome Formed) (f : Listed → Formed) (rest : Formed → Outcome Formed) (g : Listed → Formed) (bases nacks : ℕ) (s : State) →
-    (first s ≡ (run_stages ss no_lists s >>= λ r. Goes (f r))) →
-    IfGoes (run_stages ss no_lists s) (Counts bases nacks) →
-    ((r : Listed) → Counts bases nacks r → rest (f r) ≡ (run_stages more no_lists r.state >>= λ q. Goes (g (behind r.lists q)))) →
-    (first s >>= rest) ≡ (run_stages (ss ++ more) no_lists s >>= λ r. Goes (g r))
-members_form ss more first f rest g bases nacks s same counts others =
-    ap (λ x. x >>= rest) same
-    ∙ bind_assoc (run_stages ss no_lists s) (λ r. Goes (f r)) rest
-    ∙ bind_same (run_stages ss no_lists s) (λ r. rest (f r)) (λ r. run_stages more r.lists r.state >>= λ q. Goes (g q)) (Counts bases nacks) counts (λ r c.
-    others r c
-    ∙ sym (bind_assoc (run_stages more no_lists r.state) (λ q. Goes (behind r.lists q)) (λ q. Goes (g q)))
-    ∙ ap (λ x. x >>= λ q. Goes (g q)) (sym (stages_behind more r.lists r.state)))
-    ∙ sym (bind_assoc (run_stages ss no_lists s) (λ r. run_stages more r.lists r.state) (λ r. Goes (g r)))
-    ∙ ap (λ x. x >>= λ r. Goes (g r)) (sym (stages_then ss more no_lists s))
+  event_counts : (a n : ℕ) (e : Event) (s : State) → IfGoes (run_stages line (stages a n e) no_lists s) (Counts (base_count e) (nack_count e))
+  event_counts a n e s =
+      goes_weaker (run_stages line (stages a n e) no_lists s) _ (Counts (base_count e) (nack_count e))
+      (λ r h. (omega (arith, h.0, offers_of a n e), omega (arith, h.1, nacks_of a n e))) (stages_count (stages a n e) no_lists s)
 
--- the trees of a choice's members, of their own base events and nacks
-first_alone : (w : ℕ) (e : Event) (l m : Lists) → length l.offers ≡ base_count e → length l.nacks ≡ nack_count e → tree_with w e (bases_of (joined l m)) (l.nacks ++ m.nacks) ≡ tree_with w e (bases_of l) l.nacks
-first_alone w e l m bases nacks =
-    ap (λ bs. tree_with w e bs (l.nacks ++ m.nacks)) (map-append (λ (o : Offer). o.base) l.offers m.offers)
-    ∙ tree_front w e (bases_of l) (bases_of m) l.nacks m.nacks (omega (arith, bases, length-map l.offers (λ (o : Offer). o.base))) (omega (arith, nacks))
+  -- EVENTS
 
-others_alone : (w : ℕ) (es : Events) (k n : ℕ) (l m : Lists) → length l.offers ≡ k → length l.nacks ≡ n → choice_with w es (drop k (bases_of (joined l m))) (drop n (l.nacks ++ m.nacks)) ≡ choice_with w es (bases_of m) m.nacks
-others_alone w es k n l m bases nacks =
-    ap₂ (choice_with w es)
-    (ap (drop k) (map-append (λ (o : Offer). o.base) l.offers m.offers) ∙ behind_front k (bases_of l) (bases_of m) (length-map l.offers (λ (o : Offer). o.base) ∙ bases))
-    (behind_front n l.nacks m.nacks nacks)
+  abbrev formed_by : Event → List Wrapping → Listed → Formed
+  formed_by e ws r = record { tree = tree_with (length ws) e (bases_of r.lists) r.lists.nacks; wraps = ws ++ wraps_in e; state = r.state }
 
-mutual
-  pub resolves : (a n : ℕ) (e : Event) (ws : List Wrapping) (s : State) → resolve e ws s ≡ (run_stages (stages a n e) no_lists s >>= λ r. Goes (formed_by e ws r))
-  resolves a n (Sends channel list) ws s = base_forms (base_value s.store (Sends channel list)) a ws s
-  resolves a n (Receives channel) ws s = base_forms (base_value s.store (Receives channel)) a ws s
-  resolves a n (IsReady list) ws s = base_forms (base_value s.store (IsReady list)) a ws s
-  resolves a n IsNever ws s = base_forms (Ok Never) a ws s
-  resolves a n (IsCancelled nack) ws s = base_forms (base_value s.store (IsCancelled nack)) a ws s
-  resolves a n (IsJoined process) ws s = base_forms (base_value s.store (IsJoined process)) a ws s
-  resolves a n (Chooses members) ws s = resolves_all a n members ws s
-  resolves a n (Wraps e names list) ws s =
-      let w : Wrapping = record { names = names; list = list } in
-      ap (λ x. x >>= as_wrap (length ws)) (resolves a n e (ws ++ w ∷ []) s)
-      ∙ bind_assoc (run_stages (stages a n e) no_lists s) (λ r. Goes (formed_by e (ws ++ w ∷ []) r)) (as_wrap (length ws))
-      ∙ bind_each (run_stages (stages a n e) no_lists s) _ _ (λ r.
-      ap₂ (λ k v. Goes (record { tree = Wrap (length ws) (tree_with k e (bases_of r.lists) r.lists.nacks); wraps = v; state = r.state })) (length-append ws (w ∷ [])) (append_assoc ws (w ∷ []) (wraps_in e)))
-  resolves a n (Guards body e) ws s =
-      guard_forms (stages a n e) body (resolve e ws) (formed_by e ws) s (λ t. resolves a n e ws t)
-  resolves a n (Nacks name body e) ws s =
-      let ss = stages (bit_or a (2 ^ n)) (n + 1) e in
-      let f = formed_by (Nacks name body e) ws in
-      bind_assoc (with_nack name s >>= run_block body) (resolve e ws) (as_scope s.nacks)
-      ∙ bind_assoc (with_nack name s) (run_block body) (λ u. resolve e ws u >>= as_scope s.nacks)
-      ∙ bind_each (with_nack name s) _ (λ t. run_stages (Performed body ∷ ss) (with_scope s.nacks no_lists) t >>= λ r. Goes (f r))
-      (λ t. nack_forms ss body (resolve e ws) (formed_by e ws) f s.nacks t (λ u. resolves (bit_or a (2 ^ n)) (n + 1) e ws u) (λ r. refl))
-      ∙ sym (bind_assoc (run_stage (Made name) no_lists s) (λ r. run_stages (Performed body ∷ ss) r.lists r.state) (λ r. Goes (f r))
-      ∙ bind_assoc (with_nack name s) (λ t. Goes (record { lists = with_scope s.nacks no_lists; state = t })) (λ r. run_stages (Performed body ∷ ss) r.lists r.state >>= λ q. Goes (f q)))
+  abbrev chosen_by : Events → List Wrapping → Listed → Formed
+  chosen_by es ws r = record { tree = choice_with (length ws) es (bases_of r.lists) r.lists.nacks; wraps = ws ++ wraps_in_all es; state = r.state }
 
-  pub resolves_all : (a n : ℕ) (es : Events) (ws : List Wrapping) (s : State) → resolve_all es ws s ≡ (run_stages (stages_of_all a n es) no_lists s >>= λ r. Goes (chosen_by es ws r))
-  resolves_all a n NoMembers ws s = ap (λ v. Goes (record { tree = Nothing; wraps = v; state = s })) (sym (append-nil ws))
-  resolves_all a n (Members e es) ws s =
-      let ss = stages a n e in
-      let more = stages_of_all a (n + nack_count e) es in
-      members_form ss more (resolve e ws) (formed_by e ws) (λ f. resolve_all es f.wraps f.state >>= as_first f) (chosen_by (Members e es) ws) (base_count e) (nack_count e) s
-      (resolves a n e ws s) (event_counts a n e s) (λ r c.
-      ap (λ x. x >>= as_first (formed_by e ws r)) (resolves_all a (n + nack_count e) es (ws ++ wraps_in e) r.state)
-      ∙ bind_assoc (run_stages more no_lists r.state) (λ q. Goes (chosen_by es (ws ++ wraps_in e) q)) (as_first (formed_by e ws r))
-      ∙ bind_each (run_stages more no_lists r.state) _ _ (λ q.
-      ap (λ t. Goes (record { tree = t; wraps = (ws ++ wraps_in e) ++ wraps_in_all es; state = q.state }))
-      (ap₂ Or (sym (first_alone (length ws) e r.lists q.lists c.0 c.1)) (ap (λ k. choice_with k es (bases_of q.lists) q.lists.nacks) (length-append ws (wraps_in e)) ∙ sym (others_alone (length ws + length (wraps_in e)) es (base_count e) (nack_count e) r.lists q.lists c.0 c.1)))
-      ∙ ap (λ v. Goes (record { tree = (chosen_by (Members e es) ws (behind r.lists q)).tree; wraps = v; state = q.state })) (append_assoc ws (wraps_in e) (wraps_in_all es))))
+  abbrev as_offered : ℕ → State → Base → Outcome Listed
+  as_offered a s base = Goes (record { lists = with_offer base a no_lists; state = s })
 
--- a whole event
-pub resolves_whole : (e : Event) (s : State) → resolve e [] s ≡ (run_stages (stages 0 0 e) no_lists s >>= λ r. Goes (formed_as e r.lists r.state))
-resolves_whole e s = resolves 0 0 e [] s
+  abbrev as_single : List Wrapping → Listed → Outcome Formed
+  as_single ws r = Goes (record { tree = Single (get_or (bases_of r.lists) 0 Never); wraps = ws ++ []; state = r.state })
+
+  base_forms : (v : Result Base Fault) (a : ℕ) (ws : List Wrapping) (s : State) → (given s v >>= formed ws s)
+      ≡ (given s v >>= as_offered a s >>= (λ r. run_stages line [] r.lists r.state) >>= as_single ws)
+  base_forms (Ok base) a ws s = ap (λ w. Goes (record { tree = Single base; wraps = w; state = s })) (sym (append-nil ws))
+  base_forms (Err fault) a ws s = refl
+
+  -- a guard, and then the event
+  guard_forms : (ss : List Stage) (body : Block) (event : State → Outcome Formed) (f : Listed → Formed) (s : State) → ((t : State) → event t ≡ (run_stages line ss no_lists t >>= λ r. Goes (f r))) →
+      (performed body s >>= event) ≡ (run_stages line (Performed body ∷ ss) no_lists s >>= λ r. Goes (f r))
+  guard_forms ss body event f s same =
+      bind_each (performed body s) event (λ t. run_stages line ss no_lists t >>= λ r. Goes (f r)) same
+      ∙ sym (bind_assoc (run_stage line (Performed body) no_lists s) (λ r. run_stages line ss r.lists r.state) (λ r. Goes (f r)) ∙ bind_assoc (performed body s) (λ t. Goes (record { lists = no_lists; state = t })) (λ r. run_stages line ss r.lists r.state >>= λ q. Goes (f q)))
+
+  -- a nack's block and its event
+  nack_forms : (ss : List Stage) (body : Block) (event : State → Outcome Formed) (f g : Listed → Formed) (k : ℕ) (t : State) →
+      ((u : State) → event u ≡ (run_stages line ss no_lists u >>= λ r. Goes (f r))) → ((r : Listed) → as_scope k (f r) ≡ Goes (g (behind (with_scope k no_lists) r))) →
+      (performed body t >>= λ u. event u >>= as_scope k) ≡ (run_stages line (Performed body ∷ ss) (with_scope k no_lists) t >>= λ r. Goes (g r))
+  nack_forms ss body event f g k t same scoped =
+      let l = with_scope k no_lists in
+      bind_each (performed body t) _ (λ u. run_stages line ss l u >>= λ r. Goes (g r)) (λ u.
+      ap (λ x. x >>= as_scope k) (same u)
+      ∙ bind_assoc (run_stages line ss no_lists u) (λ r. Goes (f r)) (as_scope k)
+      ∙ bind_each (run_stages line ss no_lists u) _ _ scoped
+      ∙ sym (bind_assoc (run_stages line ss no_lists u) (λ r. Goes (behind l r)) (λ r. Goes (g r)))
+      ∙ ap (λ x. x >>= λ r. Goes (g r)) (sym (stages_behind ss l u)))
+      ∙ sym (bind_assoc (run_stage line (Performed body) l t) (λ r. run_stages line ss r.lists r.state) (λ r. Goes (g r)) ∙ bind_assoc (performed body t) (λ u. Goes (record { lists = l; state = u })) (λ r. run_stages line ss r.lists r.state >>= λ q. Goes (g q)))
+
+  -- an event, and then the others of its choice
+  members_form : (ss more : List Stage) (first : State → Outcome Formed) (f : Listed → Formed) (rest : Formed → Outcome Formed) (g : Listed → Formed) (bases nacks : ℕ) (s : State) →
+      (first s ≡ (run_stages line ss no_lists s >>= λ r. Goes (f r))) →
+      IfGoes (run_stages line ss no_lists s) (Counts bases nacks) →
+      ((r : Listed) → Counts bases nacks r → rest (f r) ≡ (run_stages line more no_lists r.state >>= λ q. Goes (g (behind r.lists q)))) →
+      (first s >>= rest) ≡ (run_stages line (ss ++ more) no_lists s >>= λ r. Goes (g r))
+  members_form ss more first f rest g bases nacks s same counts others =
+      ap (λ x. x >>= rest) same
+      ∙ bind_assoc (run_stages line ss no_lists s) (λ r. Goes (f r)) rest
+      ∙ bind_same (run_stages line ss no_lists s) (λ r. rest (f r)) (λ r. run_stages line more r.lists r.state >>= λ q. Goes (g q)) (Counts bases nacks) counts (λ r c.
+      others r c
+      ∙ sym (bind_assoc (run_stages line more no_lists r.state) (λ q. Goes (behind r.lists q)) (λ q. Goes (g q)))
+      ∙ ap (λ x. x >>= λ q. Goes (g q)) (sym (stages_behind more r.lists r.state)))
+      ∙ sym (bind_assoc (run_stages line ss no_lists s) (λ r. run_stages line more r.lists r.state) (λ r. Goes (g r)))
+      ∙ ap (λ x. x >>= λ r. Goes (g r)) (sym (stages_then ss more no_lists s))
+
+  -- the trees of a choice's members, of their own base events and nacks
+  first_alone : (w : ℕ) (e : Event) (l m : Lists) → length l.offers ≡ base_count e → length l.nacks ≡ nack_count e → tree_with w e (bases_of (joined l m)) (l.nacks ++ m.nacks) ≡ tree_with w e (bases_of l) l.nacks
+  first_alone w e l m bases nacks =
+      ap (λ bs. tree_with w e bs (l.nacks ++ m.nacks)) (map-append (λ (o : Offer). o.base) l.offers m.offers)
+      ∙ tree_front w e (bases_of l) (bases_of m) l.nacks m.nacks (omega (arith, bases, length-map l.offers (λ (o : Offer). o.base))) (omega (arith, nacks))
+
+  others_alone : (w : ℕ) (es : Events) (k n : ℕ) (l m : Lists) → length l.offers ≡ k → length l.nacks ≡ n → choice_with w es (drop k (bases_of (joined l m))) (drop n (l.nacks ++ m.nacks)) ≡ choice_with w es (bases_of m) m.nacks
+  others_alone w es k n l m bases nacks =
+      ap₂ (choice_with w es)
+      (ap (drop k) (map-append (λ (o : Offer). o.base) l.offers m.offers) ∙ behind_front k (bases_of l) (bases_of m) (length-map l.offers (λ (o : Offer). o.base) ∙ bases))
+      (behind_front n l.nacks m.nacks nacks)
+
+  mutual
+    pub resolves : (a n : ℕ) (e : Event) (ws : List Wrapping) (s : State) → resolve line e ws s ≡ (run_stages line (stages a n e) no_lists s >>= λ r. Goes (formed_by e ws r))
+    resolves a n (Sends channel list) ws s = base_forms (base_value s.store (Sends channel list)) a ws s
+    resolves a n (Receives channel) ws s = base_forms (base_value s.store (Receives channel)) a ws s
+    resolves a n (IsReady list) ws s = base_forms (base_value s.store (IsReady list)) a ws s
+    resolves a n IsNever ws s = base_forms (Ok Never) a ws s
+    resolves a n (IsCancelled nack) ws s = base_forms (base_value s.store (IsCancelled nack)) a ws s
+    resolves a n (IsJoined process) ws s = base_forms (base_value s.store (IsJoined process)) a ws s
+    resolves a n (Chooses members) ws s = resolves_all a n members ws s
+    resolves a n (Wraps e names list) ws s =
+        let w : Wrapping = record { names = names; list = list } in
+        ap (λ x. x >>= as_wrap (length ws)) (resolves a n e (ws ++ w ∷ []) s)
+        ∙ bind_assoc (run_stages line (stages a n e) no_lists s) (λ r. Goes (formed_by e (ws ++ w ∷ []) r)) (as_wrap (length ws))
+        ∙ bind_each (run_stages line (stages a n e) no_lists s) _ _ (λ r.
+        ap₂ (λ k v. Goes (record { tree = Wrap (length ws) (tree_with k e (bases_of r.lists) r.lists.nacks); wraps = v; state = r.state })) (length-append ws (w ∷ [])) (append_assoc ws (w ∷ []) (wraps_in e)))
+    resolves a n (Guards body e) ws s =
+        guard_forms (stages a n e) body (resolve line e ws) (formed_by e ws) s (λ t. resolves a n e ws t)
+    resolves a n (Nacks name body e) ws s =
+        let ss = stages (bit_or a (2 ^ n)) (n + 1) e in
+        let f = formed_by (Nacks name body e) ws in
+        ap (λ x. x >>= resolve line e ws >>= as_scope s.nacks) (bind_assoc (with_nack name s) (run_block body) (set_line line))
+        ∙ bind_assoc (with_nack name s >>= performed body) (resolve line e ws) (as_scope s.nacks)
+        ∙ bind_assoc (with_nack name s) (performed body) (λ u. resolve line e ws u >>= as_scope s.nacks)
+        ∙ bind_each (with_nack name s) _ (λ t. run_stages line (Performed body ∷ ss) (with_scope s.nacks no_lists) t >>= λ r. Goes (f r))
+        (λ t. nack_forms ss body (resolve line e ws) (formed_by e ws) f s.nacks t (λ u. resolves (bit_or a (2 ^ n)) (n + 1) e ws u) (λ r. refl))
+        ∙ sym (bind_assoc (run_stage line (Made name) no_lists s) (λ r. run_stages line (Performed body ∷ ss) r.lists r.state) (λ r. Goes (f r))
+        ∙ bind_assoc (with_nack name s) (λ t. Goes (record { lists = with_scope s.nacks no_lists; state = t })) (λ r. run_stages line (Performed body ∷ ss) r.lists r.state >>= λ q. Goes (f q)))
+
+    pub resolves_all : (a n : ℕ) (es : Events) (ws : List Wrapping) (s : State) → resolve_all line es ws s ≡ (run_stages line (stages_of_all a n es) no_lists s >>= λ r. Goes (chosen_by es ws r))
+    resolves_all a n NoMembers ws s = ap (λ v. Goes (record { tree = Nothing; wraps = v; state = s })) (sym (append-nil ws))
+    resolves_all a n (Members e es) ws s =
+        let ss = stages a n e in
+        let more = stages_of_all a (n + nack_count e) es in
+        members_form ss more (resolve line e ws) (formed_by e ws) (λ f. resolve_all line es f.wraps f.state >>= as_first f) (chosen_by (Members e es) ws) (base_count e) (nack_count e) s
+        (resolves a n e ws s) (event_counts a n e s) (λ r c.
+        ap (λ x. x >>= as_first (formed_by e ws r)) (resolves_all a (n + nack_count e) es (ws ++ wraps_in e) r.state)
+        ∙ bind_assoc (run_stages line more no_lists r.state) (λ q. Goes (chosen_by es (ws ++ wraps_in e) q)) (as_first (formed_by e ws r))
+        ∙ bind_each (run_stages line more no_lists r.state) _ _ (λ q.
+        ap (λ t. Goes (record { tree = t; wraps = (ws ++ wraps_in e) ++ wraps_in_all es; state = q.state }))
+        (ap₂ Or (sym (first_alone (length ws) e r.lists q.lists c.0 c.1)) (ap (λ k. choice_with k es (bases_of q.lists) q.lists.nacks) (length-append ws (wraps_in e)) ∙ sym (others_alone (length ws + length (wraps_in e)) es (base_count e) (nack_count e) r.lists q.lists c.0 c.1)))
+        ∙ ap (λ v. Goes (record { tree = (chosen_by (Members e es) ws (behind r.lists q)).tree; wraps = v; state = q.state })) (append_assoc ws (wraps_in e) (wraps_in_all es))))
+
+  -- a whole event
+  pub resolves_whole : (e : Event) (s : State) → resolve line e [] s ≡ (run_stages line (stages 0 0 e) no_lists s >>= λ r. Goes (formed_as e r.lists r.state))
+  resolves_whole e s = resolves 0 0 e [] s

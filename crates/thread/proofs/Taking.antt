@@ -6,7 +6,6 @@ use Rattle.script_tree.specs.Trees.{Event, Sends, Receives, IsReady, IsNever, Is
 use Rattle.protocol_values.specs.declared.Message.{Message}
 use Rattle.thread.specs.Values.{expr_value, list_value, test_value, with_names}
 use Rattle.thread.specs.After.{State, Chosen, Outcome, ◌>>=◌, given, received, Wrapping, wrapped_once, wrapped, Formed, committed, synced_with, synced, times, endless, formed, with_nack, as_wrap, as_scope, as_first, run_block, run_stmt, resolve, resolve_all}
-use Rattle.thread.specs.Stacks.{turn_on}
 use Rattle.thread.proofs.Binding.{IfGoes, bind_goes, bind_same, bind_assoc, given_goes, goes_weaker, if_goes}
 
 abbrev pub NoMore : State → State → Type 0
@@ -129,27 +128,11 @@ mutual
       bind_goes (resolve event wraps s) _ (FormsNoMore s) (FormsNoMore s) (event_keeps event wraps s) (λ f h.
       bind_goes (resolve_all others f.wraps f.state) (as_first f) (FormsNoMore f.state) (FormsNoMore s) (members_keep others f.wraps f.state) (λ g k. omega (arith, h, k)))
 
--- ENDLESS LOOPS
+-- TURNS
+
+abbrev pub turn_on : LoopBody → State → Outcome State
+turn_on turn s = resolve turn.event [] s >>= synced turn.names >>= run_block turn.rest
 
 pub turn_takes : (turn : LoopBody) (s : State) → IfGoes (turn_on turn s) (λ t. length t.left < length s.left)
 turn_takes turn s =
     turn_keeps turn.names (resolve turn.event []) (run_block turn.rest) (event_keeps turn.event []) (block_keeps turn.rest) s
-
--- more turns than there are results make no difference
-enough : (turn : LoopBody) (n m : ℕ) (s : State) → length s.left < n → length s.left < m → times n (turn_on turn) s ≡ times m (turn_on turn) s
-enough turn zero m s first second = absurd (omega (arith, first))
-enough turn (suc n) zero s first second = absurd (omega (arith, second))
-enough turn (suc n) (suc m) s first second =
-    bind_same (turn_on turn s) (times n (turn_on turn)) (times m (turn_on turn)) (λ t. length t.left < length s.left) (turn_takes turn s) (λ t h.
-    enough turn n m t (omega (arith, h, first)) (omega (arith, h, second)))
-
-pub endless_more : (turn : LoopBody) (s : State) (f : State → Outcome State) → endless (turn_on turn) s >>= f ≡ (turn_on turn s >>= λ t. endless (turn_on turn) t >>= f)
-endless_more turn s f =
-    ap (λ x. x >>= f)
-    (bind_same (turn_on turn s) (times (length s.left) (turn_on turn)) (endless (turn_on turn)) (λ t. length t.left < length s.left) (turn_takes turn s)
-    (λ t h. enough turn (length s.left) (suc (length t.left)) t h (omega arith)))
-    ∙ bind_assoc (turn_on turn s) (endless (turn_on turn)) f
-
-pub times_more : (turn : LoopBody) (n left : ℕ) (s : State) (f : State → Outcome State) → n ≡ suc left → times n (turn_on turn) s >>= f ≡ (turn_on turn s >>= λ t. times left (turn_on turn) t >>= f)
-times_more turn n left s f e =
-    ap (λ k. times k (turn_on turn) s >>= f) e ∙ bind_assoc (turn_on turn s) (times left (turn_on turn)) f

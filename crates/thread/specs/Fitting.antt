@@ -23,7 +23,7 @@ pub record HasPlace (c : Code) (at : ℕ) : Type 0 where
   pub there : slice_get c.places.items at ≡ Some place
 
 abbrev pub HasSync : Code → ℕ → Type 0
-HasSync c number = HasPlan c number (sync_at c number).names (sync_at c number).event (sync_at c number).rest
+HasSync c number = HasPlan c number (sync_at c number).line (sync_at c number).names (sync_at c number).event (sync_at c number).rest
 
 -- the masks of the offers that stages make, and how many nacks they make
 abbrev pub masks : List Stage → List ℕ

@@ -1,6 +1,7 @@
 pub mod Values
 pub mod Memories
 pub mod After
+pub mod Standing
 pub mod Shapes
 pub mod Resolving
 pub mod Passing

@@ -7,6 +7,7 @@ use Rattle.thread.specs.Values.{Store}
 pub record HasStore (old new : Memory) (store : Store) : Type 0 where
   pub thread : new.thread ≡ old.thread
   pub nacks : new.nacks ≡ old.nacks
+  pub line : new.line ≡ old.line
   pub printed : new.printed ≡ old.printed
   pub spawned : new.spawned ≡ old.spawned
   pub variables : new.variables.items ≡ store

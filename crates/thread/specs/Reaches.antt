@@ -2,7 +2,7 @@
 use Rattle.std.specs.Prelude.{ℕ, ◌+◌, ◌<◌, List, [], ◌∷◌, drop, ⊤}
 use Rattle.thread_code.specs.Stages.{Stage, Offered, Performed, Made, stages}
 use Rattle.thread_code.specs.declared.Code.{Code}
-use Rattle.script_tree.specs.Trees.{Event, Sends, Receives, IsReady, IsNever, IsCancelled, IsJoined, Chooses, Wraps, Guards, Nacks, Events, NoMembers, Members, Stmt, Lets, Prints, Syncs, Branches, Loops, LoopsForever, Ends, Spawns, Block, Stops, Runs}
+use Rattle.thread_code.specs.Lined.{Event, Sends, Receives, IsReady, IsNever, IsCancelled, IsJoined, Chooses, Wraps, Guards, Nacks, Events, NoMembers, Members, Stmt, Lets, Prints, Syncs, Branches, Loops, LoopsForever, Ends, Spawns, Block, Stops, Runs}
 use Rattle.thread.specs.declared.stack.Frame.{Frame}
 use Rattle.thread.specs.declared.stack.Frame.TheVariants as frame
 use Rattle.thread.specs.declared.stack.Opening.{Opening}
@@ -35,14 +35,14 @@ abbrev mutual
   stmt_reach (Prints value) = 0
   stmt_reach (Syncs names event) = 1 + event_reach event
   stmt_reach (Branches test first second) = 1 + stmts_reach first + stmts_reach second
-  stmt_reach (Loops number names event rest) = 4 + event_reach event
-  stmt_reach (LoopsForever names event rest) = 4 + event_reach event
+  stmt_reach (Loops number at names event rest) = 4 + event_reach event
+  stmt_reach (LoopsForever at names event rest) = 4 + event_reach event
   stmt_reach Ends = 0
   stmt_reach (Spawns process) = 0
 
   pub stmts_reach : Block → ℕ
   stmts_reach Stops = 1
-  stmts_reach (Runs stmt rest) = 1 + stmt_reach stmt + stmts_reach rest
+  stmts_reach (Runs stmt line rest) = 1 + stmt_reach stmt + stmts_reach rest
 
 abbrev pub stages_reach : List Stage → ℕ
 stages_reach [] = 0

@@ -2,13 +2,14 @@
 use Rattle.std.specs.Prelude.{ℕ, List, [], ◌∷◌, ◌++◌, map, Result, Ok}
 use Rattle.thread_code.specs.Stages.{Stage, Offered, Performed, Made}
 use Rattle.event.specs.Tree.{Tree}
-use Rattle.script_tree.specs.Trees.{Event, Sends, Receives, IsReady, IsCancelled, IsJoined}
+use Rattle.thread_code.specs.Lined.{Event, Sends, Receives, IsReady, IsCancelled, IsJoined}
 use Rattle.protocol_values.specs.declared.Base.{Base}
 use Rattle.protocol_values.specs.declared.Base.TheVariants.{Never, OnEnd}
 use Rattle.protocol_values.specs.declared.Offer.{Offer}
 use Rattle.thread.specs.declared.Fault.{Fault}
 use Rattle.thread.specs.Values.{Store}
-use Rattle.thread.specs.After.{State, Outcome, Goes, ◌>>=◌, Formed, given, send_value, recv_value, always_value, cancelled_value, with_nack, run_block}
+use Rattle.thread.specs.After.{send_value, recv_value, always_value, cancelled_value}
+use Rattle.thread.specs.Standing.{set_line, State, Outcome, Goes, ◌>>=◌, Formed, given, with_nack, run_block}
 use Rattle.thread.specs.Shapes.{tree_with, wraps_in}
 
 -- the offers and the nacks of a sync so far
@@ -39,14 +40,15 @@ base_value store (IsCancelled nack) = cancelled_value store nack
 base_value store (IsJoined process) = Ok (OnEnd process)
 base_value store event = Ok Never
 
-abbrev pub run_stage : Stage → Lists → State → Outcome Listed
-run_stage (Offered event scopes) l s = given s (base_value s.store event) >>= λ base. Goes (record { lists = with_offer base scopes l; state = s })
-run_stage (Performed body) l s = run_block body s >>= λ t. Goes (record { lists = l; state = t })
-run_stage (Made name) l s = with_nack name s >>= λ t. Goes (record { lists = with_scope s.nacks l; state = t })
+-- of a sync at this line
+abbrev pub run_stage : ℕ → Stage → Lists → State → Outcome Listed
+run_stage line (Offered event scopes) l s = given s (base_value s.store event) >>= λ base. Goes (record { lists = with_offer base scopes l; state = s })
+run_stage line (Performed body) l s = run_block body s >>= set_line line >>= λ t. Goes (record { lists = l; state = t })
+run_stage line (Made name) l s = with_nack name s >>= λ t. Goes (record { lists = with_scope s.nacks l; state = t })
 
-abbrev pub run_stages : List Stage → Lists → State → Outcome Listed
-run_stages [] l s = Goes (record { lists = l; state = s })
-run_stages (stage ∷ more) l s = run_stage stage l s >>= λ r. run_stages more r.lists r.state
+abbrev pub run_stages : ℕ → List Stage → Lists → State → Outcome Listed
+run_stages line [] l s = Goes (record { lists = l; state = s })
+run_stages line (stage ∷ more) l s = run_stage line stage l s >>= λ r. run_stages line more r.lists r.state
 
 -- the tree that the lists stand for
 abbrev pub tree_as : Event → Lists → Tree

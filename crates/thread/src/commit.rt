@@ -3,8 +3,10 @@
 ghost use Rattle.std.specs.Prelude.{◌≡◌, ◌<◌, ◌∷◌, List, Some, length};
 ghost use Rattle.std.specs.Option.{option_map};
 ghost use Rattle.thread_code.specs.Codes.{IsLinked};
-ghost use Rattle.script_tree.specs.Trees.{event_of, exprs_of, names_of};
-ghost use Rattle.thread.specs.After.{Chosen, wrapped_once};
+ghost use Rattle.script_tree.specs.Trees.{exprs_of, names_of};
+ghost use Rattle.thread_code.specs.Lined.{event_of};
+ghost use Rattle.thread.specs.After.{Chosen};
+ghost use Rattle.thread.specs.Standing.{wrapped_once};
 ghost use Rattle.thread.specs.Fitting.{StepFits, StopFits};
 ghost use Rattle.thread.specs.Passages.{Passes};
 ghost use Rattle.thread.specs.Stacks.{lists_of, message_after, own, state_of, step_of, step_on, stop_on};

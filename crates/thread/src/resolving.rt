@@ -2,7 +2,8 @@
 
 ghost use Rattle.std.specs.Prelude.{◌≡◌, IfOk, List};
 ghost use Rattle.thread_code.specs.Codes.{IsLinked};
-ghost use Rattle.script_tree.specs.Trees.{event_of, exprs_of};
+ghost use Rattle.script_tree.specs.Trees.{exprs_of};
+ghost use Rattle.thread_code.specs.Lined.{event_of};
 ghost use Rattle.thread.specs.After.{Chosen, channel_value, nack_value, send_value, recv_value, always_value, cancelled_value};
 ghost use Rattle.thread.specs.Fitting.{NowFits, StepFits};
 ghost use Rattle.thread.specs.Reaches.{Falls, now_reach};
@@ -99,6 +100,8 @@ pub(crate) fn resolve(
     ensures fits { IfOk result (StepFits code.now stack.new) }
     ensures spawned { memory.new.spawned ≡ memory.old.spawned }
 {
+    let begun = plan_of(code, opening.plan);
+    memory.line = begun.line;
     loop {
         let plan = plan_of(code, opening.plan);
         let Some(stage) = plan.stages.get(opening.stage) else {

@@ -57,10 +57,11 @@ pub(crate) fn run(
     ensures spawned { IfOk result (λ step. SpawnsOn memory.old memory.new) }
 {
     let place = place_at(code, at);
-    let Block::Then(stmt, _, _) = &*place.block else {
+    let Block::Then(stmt, line, _) = &*place.block else {
         let step = back(code, memory, stack)?;
         return Ok(step);
     };
+    memory.line = *line;
     match stmt {
         Stmt::Let(name, value) => match value_of(value, &memory.variables) {
             Ok(atom) => {

@@ -2,7 +2,7 @@
 use Rattle.std.proofs.Common.{◌≡◌, ℕ, zero, suc, List, [], ◌∷◌, ◌++◌, Option, Some, None, ◌⊎◌, inl, inr, ⊎_elim, length, slice_get, refl, sym, ◌∙◌, ap, subst, append_assoc}
 use Rattle.std.proofs.lemmas.Option.{none-some, same_Some}
 use Rattle.std.specs.Option.{option_map}
-use Rattle.script_tree.specs.Trees.{Event, Stmt, Lets, Prints, Syncs, Branches, Loops, LoopsForever, Ends, Spawns, Block, Stops, Runs, block_of}
+use Rattle.thread_code.specs.Lined.{Event, Stmt, Lets, Prints, Syncs, Branches, Loops, LoopsForever, Ends, Spawns, Block, Stops, Runs, block_of}
 use Rattle.thread_code.specs.declared.Place.{Place}
 use Rattle.thread_code.specs.declared.Plan.{Plan}
 use Rattle.thread_code.specs.declared.Stage.{Stage as SeenStage}
@@ -85,8 +85,9 @@ pub stages_behind : (c : Code) (ss : List SeenStage) (before : List Stage) (stag
 stages_behind c ss before stage behind whole is h =
     subst (λ l. AreStages c ss l) (append_assoc before (stage ∷ []) behind ∙ ap (λ l. before ++ l) (sym is)) h
 
-is_plan_on : (c d : Code) (names : Option (List ℕ)) (event : Event) (rest : Block) (plan : Plan) → Grows c d → IsPlan c names event rest plan → IsPlan d names event rest plan
-is_plan_on c d names event rest plan g h = record {
+is_plan_on : (c d : Code) (line : ℕ) (names : Option (List ℕ)) (event : Event) (rest : Block) (plan : Plan) → Grows c d → IsPlan c line names event rest plan → IsPlan d line names event rest plan
+is_plan_on c d line names event rest plan g h = record {
+  line_is = h.line_is;
   names = h.names;
   event = h.event;
   stages = are_stages_on c d _ _ g h.stages;
@@ -94,26 +95,26 @@ is_plan_on c d names event rest plan g h = record {
   then = is_at_on c d plan.then rest g h.then;
 }
 
-pub has_plan_on : (c d : Code) (number : ℕ) (names : Option (List ℕ)) (event : Event) (rest : Block) → Grows c d → HasPlan c number names event rest → HasPlan d number names event rest
-has_plan_on c d number names event rest g h = record {
+pub has_plan_on : (c d : Code) (number line : ℕ) (names : Option (List ℕ)) (event : Event) (rest : Block) → Grows c d → HasPlan c number line names event rest → HasPlan d number line names event rest
+has_plan_on c d number line names event rest g h = record {
   plan = h.plan;
   there = g.plans number h.plan h.there;
-  is = is_plan_on c d names event rest h.plan g h.is;
+  is = is_plan_on c d line names event rest h.plan g h.is;
 }
 
-stmt_leads_on : (c d : Code) (p : Place) (stmt : Stmt) (rest : Block) → Grows c d → StmtLeads c p stmt rest → StmtLeads d p stmt rest
-stmt_leads_on c d p (Lets name value) rest g h = tt
-stmt_leads_on c d p (Prints value) rest g h = tt
-stmt_leads_on c d p (Syncs names event) rest g h = has_plan_on c d p.first names event rest g h
-stmt_leads_on c d p (Branches test first second) rest g h = (is_at_on c d p.first first g h.0, is_at_on c d p.second second g h.1)
-stmt_leads_on c d p (Loops times names event body) rest g h = has_plan_on c d p.first names event body g h
-stmt_leads_on c d p (LoopsForever names event body) rest g h = has_plan_on c d p.first names event body g h
-stmt_leads_on c d p Ends rest g h = tt
-stmt_leads_on c d p (Spawns process) rest g h = tt
+stmt_leads_on : (c d : Code) (p : Place) (line : ℕ) (stmt : Stmt) (rest : Block) → Grows c d → StmtLeads c p line stmt rest → StmtLeads d p line stmt rest
+stmt_leads_on c d p line (Lets name value) rest g h = tt
+stmt_leads_on c d p line (Prints value) rest g h = tt
+stmt_leads_on c d p line (Syncs names event) rest g h = has_plan_on c d p.first line names event rest g h
+stmt_leads_on c d p line (Branches test first second) rest g h = (is_at_on c d p.first first g h.0, is_at_on c d p.second second g h.1)
+stmt_leads_on c d p line (Loops times at names event body) rest g h = has_plan_on c d p.first at names event body g h
+stmt_leads_on c d p line (LoopsForever at names event body) rest g h = has_plan_on c d p.first at names event body g h
+stmt_leads_on c d p line Ends rest g h = tt
+stmt_leads_on c d p line (Spawns process) rest g h = tt
 
 block_leads_on : (c d : Code) (p : Place) (block : Block) → Grows c d → BlockLeads c p block → BlockLeads d p block
 block_leads_on c d p Stops g h = tt
-block_leads_on c d p (Runs stmt rest) g h = (is_at_on c d p.next rest g h.0, stmt_leads_on c d p stmt rest g h.1)
+block_leads_on c d p (Runs stmt line rest) g h = (is_at_on c d p.next rest g h.0, stmt_leads_on c d p line stmt rest g h.1)
 
 -- PUTTING IN
 

@@ -1,3 +1,4 @@
 pub mod Growing
 pub mod Chains
+pub mod Lines
 pub mod Limits

@@ -1,8 +1,8 @@
 -- When a code is that of a block: each place knows where its block goes on, and what each sync is to do.
 use Rattle.std.specs.Prelude.{◌≡◌, ℕ, List, [], ◌∷◌, Option, Some, slice_get, ⊤}
 use Rattle.std.specs.Option.{option_map}
-use Rattle.script_tree.specs.Limits.{IsSmall}
-use Rattle.script_tree.specs.Trees.{Event, Stmt, Lets, Prints, Syncs, Branches, Loops, LoopsForever, Ends, Spawns, Block, Stops, Runs, block_of, event_of, names_of}
+use Rattle.script_tree.specs.Trees.{names_of}
+use Rattle.thread_code.specs.Lined.{Event, Stmt, Lets, Prints, Syncs, Branches, Loops, LoopsForever, Ends, Spawns, Block, Stops, Runs, IsSmall, block_of, event_of}
 use Rattle.thread_code.specs.declared.Place.{Place}
 use Rattle.thread_code.specs.declared.Plan.{Plan}
 use Rattle.thread_code.specs.declared.Stage.{Stage as SeenStage}
@@ -28,38 +28,39 @@ AreStages c [] [] = ⊤
 AreStages c (s ∷ more) (stage ∷ others) = IsStage c s stage × AreStages c more others
 AreStages c some others = ⊥
 
--- the plan of a sync, which is small, and behind which a block stands
-pub record IsPlan (c : Code) (binds : Option (List ℕ)) (e : Event) (rest : Block) (plan : Plan) : Type 0 where
+-- the plan of a sync at a line, which is small, and behind which a block stands
+pub record IsPlan (c : Code) (line : ℕ) (binds : Option (List ℕ)) (e : Event) (rest : Block) (plan : Plan) : Type 0 where
+  pub line_is : plan.line ≡ line
   pub names : option_map names_of plan.names ≡ binds
   pub event : event_of plan.event.value ≡ e
   pub stages : AreStages c plan.stages.items (stages 0 0 e)
   pub small : IsSmall e
   pub then : IsAt c plan.then rest
 
-pub record HasPlan (c : Code) (number : ℕ) (binds : Option (List ℕ)) (e : Event) (rest : Block) : Type 0 where
+pub record HasPlan (c : Code) (number line : ℕ) (binds : Option (List ℕ)) (e : Event) (rest : Block) : Type 0 where
   pub plan : Plan
   pub there : slice_get c.plans.items number ≡ Some plan
-  pub is : IsPlan c binds e rest plan
+  pub is : IsPlan c line binds e rest plan
 
--- a place leads where its block goes on
-abbrev pub StmtLeads : Code → Place → Stmt → Block → Type 0
-StmtLeads c p (Lets name value) rest = ⊤
-StmtLeads c p (Prints value) rest = ⊤
-StmtLeads c p (Syncs names event) rest = HasPlan c p.first names event rest
-StmtLeads c p (Branches test first second) rest = IsAt c p.first first × IsAt c p.second second
-StmtLeads c p (Loops times names event body) rest = HasPlan c p.first names event body
-StmtLeads c p (LoopsForever names event body) rest = HasPlan c p.first names event body
-StmtLeads c p Ends rest = ⊤
-StmtLeads c p (Spawns process) rest = ⊤
+-- a place leads where its block goes on, whose statement stands at a line
+abbrev pub StmtLeads : Code → Place → ℕ → Stmt → Block → Type 0
+StmtLeads c p line (Lets name value) rest = ⊤
+StmtLeads c p line (Prints value) rest = ⊤
+StmtLeads c p line (Syncs names event) rest = HasPlan c p.first line names event rest
+StmtLeads c p line (Branches test first second) rest = IsAt c p.first first × IsAt c p.second second
+StmtLeads c p line (Loops times at names event body) rest = HasPlan c p.first at names event body
+StmtLeads c p line (LoopsForever at names event body) rest = HasPlan c p.first at names event body
+StmtLeads c p line Ends rest = ⊤
+StmtLeads c p line (Spawns process) rest = ⊤
 
 abbrev pub BlockLeads : Code → Place → Block → Type 0
 BlockLeads c p Stops = ⊤
-BlockLeads c p (Runs stmt rest) = IsAt c p.next rest × StmtLeads c p stmt rest
+BlockLeads c p (Runs stmt line rest) = IsAt c p.next rest × StmtLeads c p line stmt rest
 
 -- what is behind the block's first statement stands at a place
 abbrev pub LeadsTo : Code → ℕ → Block → Type 0
 LeadsTo c next Stops = ⊤
-LeadsTo c next (Runs stmt rest) = IsAt c next rest
+LeadsTo c next (Runs stmt line rest) = IsAt c next rest
 
 abbrev pub Leads : Code → Place → Type 0
 Leads c p = BlockLeads c p (block_of p.block.value)

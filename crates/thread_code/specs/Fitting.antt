@@ -1,7 +1,6 @@
 -- Each sync has at most 8 base events and 4 nacks, also those in the bodies of guards and nacks.
 use Rattle.std.specs.Prelude.{⊤}
-use Rattle.script_tree.specs.Trees.{Event, Sends, Receives, IsReady, IsNever, IsCancelled, IsJoined, Chooses, Wraps, Guards, Nacks, Events, NoMembers, Members, Stmt, Lets, Prints, Syncs, Branches, Loops, LoopsForever, Ends, Spawns, Block, Stops, Runs}
-use Rattle.script_tree.specs.Limits.{IsSmall}
+use Rattle.thread_code.specs.Lined.{IsSmall, Event, Sends, Receives, IsReady, IsNever, IsCancelled, IsJoined, Chooses, Wraps, Guards, Nacks, Events, NoMembers, Members, Stmt, Lets, Prints, Syncs, Branches, Loops, LoopsForever, Ends, Spawns, Block, Stops, Runs}
 
 -- each sync in the bodies of its guards and nacks is small
 abbrev mutual
@@ -26,11 +25,11 @@ abbrev mutual
   StmtFits (Prints value) = ⊤
   StmtFits (Syncs names event) = EventFits event × IsSmall event
   StmtFits (Branches test first second) = BlockFits first × BlockFits second
-  StmtFits (Loops number names event rest) = EventFits event × (IsSmall event × BlockFits rest)
-  StmtFits (LoopsForever names event rest) = EventFits event × (IsSmall event × BlockFits rest)
+  StmtFits (Loops number line names event rest) = EventFits event × (IsSmall event × BlockFits rest)
+  StmtFits (LoopsForever line names event rest) = EventFits event × (IsSmall event × BlockFits rest)
   StmtFits Ends = ⊤
   StmtFits (Spawns process) = ⊤
 
   pub BlockFits : Block → Type 0
   BlockFits Stops = ⊤
-  BlockFits (Runs stmt rest) = StmtFits stmt × BlockFits rest
+  BlockFits (Runs stmt line rest) = StmtFits stmt × BlockFits rest

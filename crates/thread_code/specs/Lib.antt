@@ -1,3 +1,4 @@
+pub mod Lined
 pub mod Fitting
 pub mod Stages
 pub mod Codes

@@ -5,15 +5,14 @@
 
 ghost use Rattle.std.specs.Prelude.{◌≡◌, ◌+◌, ◌≤◌, ◌++◌, List, Some, IfOk, slice_get};
 ghost use Rattle.std.specs.Option.{option_map};
-ghost use Rattle.script_tree.specs.Limits.{IsSmall, nack_count};
-ghost use Rattle.script_tree.specs.Processes.{proc_of};
-ghost use Rattle.script_tree.specs.Trees.{Block as Tree, block_of, event_of, events_of, names_of, stmt_of};
+ghost use Rattle.script_tree.specs.Trees.{names_of};
 ghost use Rattle.thread_code.specs.Codes.{AreStages, Grows, HasPlan, IsAt, IsCodeOf, IsLinked, Leads, LeadsTo};
 ghost use Rattle.thread_code.specs.Fitting.{BlockFits, EventFits};
+ghost use Rattle.thread_code.specs.Lined.{Block as Tree, IsSmall, block_of, event_of, events_of, nack_count, stmt_of};
 ghost use Rattle.thread_code.specs.Stages.{Stage as Part, stages};
 
 use crate::{Code, Place, Plan, Stage};
-use script_tree::{Block, Event, Events, Names, Proc, Stmt};
+use script_tree::{Block, Event, Events, Names, Stmt};
 use std::alloc::{AllocError, Global};
 use std::sync::Arc;
 
@@ -137,7 +136,7 @@ fn add_sync(
     requires fits { EventFits (event_of event.now.value) × IsSmall (event_of event.now.value) }
     ensures grows { IfOk result (λ number. Grows code.old code.new) }
     ensures linked { IfOk result (λ number. IsLinked code.new) }
-    ensures plan { IfOk result (λ number. (rest : Tree) → IsAt code.old then rest → HasPlan code.new number (option_map names_of names) (event_of event.now.value) rest) }
+    ensures plan { IfOk result (λ number. (rest : Tree) → IsAt code.old then rest → HasPlan code.new number line (option_map names_of names) (event_of event.now.value) rest) }
 {
     let mut stages = Vec::new(alloc);
     add_stages(alloc, code, &mut stages, event, 0, 0)?;
@@ -210,16 +209,17 @@ fn add_stages(
     }
 }
 
-/// The code of a process. Each statement, and each part of an event, takes a few words.
-pub fn compile(alloc: Global, process: &Proc) -> Result<Code, AllocError>
-    ensures { IfOk result (λ code. IsCodeOf code (proc_of process.now).body) }
+/// The code of the body of a process. Each statement, and each part of an event, takes a few words.
+pub fn compile(alloc: Global, body: &Arc<Block>) -> Result<Code, AllocError>
+    requires { BlockFits (block_of body.now.value) }
+    ensures { IfOk result (λ code. IsCodeOf code (block_of body.now.value)) }
 {
     let mut code = Code {
         places: Vec::new(alloc),
         plans: Vec::new(alloc),
         start: 0,
     };
-    code.start = add_block(alloc, &mut code, process.body())?;
+    code.start = add_block(alloc, &mut code, body)?;
     code.places.shrink_to_fit();
     code.plans.shrink_to_fit();
     Ok(code)

@@ -1,6 +1,6 @@
 use Rattle.std.proofs.Common.{◌∙◌, [], Ok, sym, ap, ap₂, subst₂}
-use Rattle.script_tree.specs.Trees.{event_of}
-use Rattle.thread.specs.After.{◌>>=◌, run_block}
+use Rattle.thread_code.specs.Lined.{event_of}
+use Rattle.thread.specs.Standing.{◌>>=◌, run_block}
 use Rattle.thread.specs.Passages.{Passes}
 use Rattle.thread.specs.Passing.{pass}
 use Rattle.thread.specs.Stacks.{frames_on, lists_of, others, place_block, state_of}

@@ -1,6 +1,6 @@
 use Rattle.std.proofs.Common.{◌≡◌, ◌++◌, ◌∷◌, [], ◌∙◌, sym, ap, arith}
 use Rattle.thread.specs.declared.stack.Frame.TheVariants.{Rest, Times, Endless, Event}
-use Rattle.thread.specs.After.{◌>>=◌, times}
+use Rattle.thread.specs.Standing.{◌>>=◌, times}
 use Rattle.thread.specs.Stacks.{frames_on, lists_of, state_of, sync_at, turn_on}
 use Rattle.thread.proofs.Looping.{endless_goes, loop_falls, loop_fits, times_goes}
 use Rattle.thread.proofs.Stacking.{frame_off, frame_put, reach_pushed, with_frame_on}

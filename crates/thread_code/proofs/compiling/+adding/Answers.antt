@@ -4,8 +4,7 @@ use Rattle.std.proofs.lemmas.Nat.{one_shl}
 use Rattle.std.specs.declared.sync.Arc.{Arc}
 use Rattle.script_tree.specs.declared.tree.Block.{Block as SeenBlock, size-Block, the_lemmas}
 use Rattle.script_tree.specs.declared.tree.Event.{Event as SeenEvent}
-use Rattle.script_tree.specs.Limits.{nack_count}
-use Rattle.script_tree.specs.Trees.{block_of, event_of}
+use Rattle.thread_code.specs.Lined.{block_of, event_of, nack_count}
 use Rattle.thread_code.specs.declared.Stage.TheVariants as seen
 use Rattle.thread_code.specs.Codes.{AreStages, IsAt}
 use Rattle.thread_code.specs.Stages.{Made, Offered, Performed, stages}
@@ -84,6 +83,7 @@ add_sync-returns-clause-plan t c rest at = record {
   plan = _;
   there = c.in_ok-number.ensures.there;
   is = record {
+    line_is = refl;
     names = refl;
     event = ap event_of c.in_ok-try_clone.ensures;
     stages =
