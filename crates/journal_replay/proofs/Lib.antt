@@ -13,6 +13,7 @@ pub mod Sounding
 mod Remembering
 mod Replaying
 pub mod Ending
+mod Lines
 mod Listing
 mod Removing
 mod Covering

@@ -3,6 +3,7 @@ pub mod Runs
 pub mod Standing
 pub mod Reaching
 pub mod Replays
+pub mod Lines
 pub mod Searching
 pub mod Ends
 pub mod Gathering

@@ -1,9 +1,10 @@
 //! Runs, replayed commit by commit and led on to their end.
 
-ghost use Rattle.std.specs.Prelude.{◌≤◌, IfOk, length, map, MatchResult};
-ghost use Rattle.script_tree.specs.Processes.{proc_of};
+ghost use Rattle.std.specs.Prelude.{◌≡◌, ◌≤◌, IfOk, length, map, MatchResult};
+ghost use Rattle.script_tree.specs.Processes.{proc_of, tree_of};
 ghost use Rattle.script_tree.specs.Spawning.{IsPlaced};
 ghost use Rattle.journal_replay.specs.Replays.{Refuses, Settles, StandsAfter};
+ghost use Rattle.journal_replay.specs.Lines.{trees_in};
 ghost use Rattle.journal_replay.specs.Stamping.{AreLegal, AreRestamped};
 
 use crate::openings::Openings;
@@ -24,7 +25,8 @@ pub fn replay(
     requires few { length processes.now ≤ 64 }
     requires rows { rows ≤ 67107840 }
     requires placed { IsPlaced (map proc_of processes.now) }
-    ensures { MatchResult result (StandsAfter (map proc_of processes.now) rows commits.now) (Refuses (map proc_of processes.now) rows commits.now) }
+    ensures stands { MatchResult result (StandsAfter (map proc_of processes.now) rows commits.now) (Refuses (map proc_of processes.now) rows commits.now) }
+    ensures trees { IfOk result (λ state. trees_in state ≡ map tree_of processes.now) }
 {
     let mut threads = Threads::start(alloc, processes, rows)?;
     for (index, commit) in commits.iter().enumerate() {

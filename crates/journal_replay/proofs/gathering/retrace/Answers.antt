@@ -7,7 +7,7 @@ use Rattle.journal_replay.proofs.Replaying.{after-order, may-be, replay-goes}
 use Rattle.journal_replay.proofs.gathering.retrace.Goals as goal
 
 pub loop-index-init : goal.loop-index-init
-loop-index-init c = c.in_ok-threads.ensures
+loop-index-init c = c.in_ok-threads.ensures.after
 
 pub apply-requires-clause-may : goal.apply-requires-clause-may
 apply-requires-clause-may c =

@@ -13,5 +13,5 @@ unreachable-requires c =
     let commits = c.args.commits.now in
     let index = c.in-Err-Unlawful.field-0-0 in
     let broken : BreaksOffAt ps c.args.rows commits index =
-    subst (λ (z : List Proc × ReplayFault). Refuses z.0 c.args.rows commits z.1) (λ i. (c.processes.ensures.value i, c.in-Err-Unlawful.field-0-is i)) c.in-Err-Unlawful.ensures in
+    subst (λ (z : List Proc × ReplayFault). Refuses z.0 c.args.rows commits z.1) (λ i. (c.processes.ensures.value i, c.in-Err-Unlawful.field-0-is i)) c.in-Err-Unlawful.ensures.stands in
     broken.broken (run-front ps c.args.rows commits (index + 1) c.requires.run)

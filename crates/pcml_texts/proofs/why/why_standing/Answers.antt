@@ -37,7 +37,7 @@ why_text-requires-clause-same c =
     let commits = c.args.commits.now in
     let are : map proc_of c.as_slice.result.now ≡ numbered_all 1 ps =
     ap (λ (seen : List SeenProc). map proc_of seen) c.as_slice.ensures.value ∙ c.in_ok-processes.ensures ∙ ap (λ (qs : List Proc). numbered_all 1 qs) c.processes.ensures.value in
-    let follows : StandsAfter (numbered_all 1 ps) c.args.rows commits c.in-Ok.standing = subst (λ (z : List Proc). StandsAfter z c.args.rows commits c.in-Ok.standing) are c.in-Ok.ensures in
+    let follows : StandsAfter (numbered_all 1 ps) c.args.rows commits c.in-Ok.standing = subst (λ (z : List Proc). StandsAfter z c.args.rows commits c.in-Ok.standing) are c.in-Ok.ensures.stands in
     threads-numbered ps c.args.rows commits c.args.state.now c.in-Ok.standing c.requires.stands follows
 
 pub why_text-requires-clause-processes : goal.why_text-requires-clause-processes
@@ -50,7 +50,7 @@ returns-in-Ok c =
     let commits = c.args.commits.now in
     let are : map proc_of c.as_slice.result.now ≡ numbered_all 1 ps =
     ap (λ (seen : List SeenProc). map proc_of seen) c.as_slice.ensures.value ∙ c.in_ok-processes.ensures ∙ ap (λ (qs : List Proc). numbered_all 1 qs) c.processes.ensures.value in
-    let follows : StandsAfter (numbered_all 1 ps) c.args.rows commits c.in-Ok.standing = subst (λ (z : List Proc). StandsAfter z c.args.rows commits c.in-Ok.standing) are c.in-Ok.ensures in
+    let follows : StandsAfter (numbered_all 1 ps) c.args.rows commits c.in-Ok.standing = subst (λ (z : List Proc). StandsAfter z c.args.rows commits c.in-Ok.standing) are c.in-Ok.ensures.stands in
     record {
       state = c.args.state.now;
       stands = c.requires.stands;
@@ -67,5 +67,5 @@ unreachable-requires c =
     let are : map proc_of c.as_slice.result.now ≡ numbered_all 1 ps =
     ap (λ (seen : List SeenProc). map proc_of seen) c.as_slice.ensures.value ∙ c.in_ok-processes.ensures ∙ ap (λ (qs : List Proc). numbered_all 1 qs) c.processes.ensures.value in
     let broken : BreaksOffAt (numbered_all 1 ps) c.args.rows commits c.in-Err-Unlawful.field-0-0 =
-    subst (λ (z : List Proc × ReplayFault). Refuses z.0 c.args.rows commits z.1) (λ i. (are i, c.in-Err-Unlawful.field-0-is i)) c.in-Err-Unlawful.ensures in
+    subst (λ (z : List Proc × ReplayFault). Refuses z.0 c.args.rows commits z.1) (λ i. (are i, c.in-Err-Unlawful.field-0-is i)) c.in-Err-Unlawful.ensures.stands in
     numbered-unbroken ps c.args.rows commits c.args.state.now c.in-Err-Unlawful.field-0-0 c.requires.stands broken
