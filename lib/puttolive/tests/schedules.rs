@@ -474,6 +474,7 @@ const SCENARIOS: &[Scenario] = &[
     Scenario { name: "lent_tasks", trial: None, build: lent_tasks },
     Scenario { name: "lent_drops", trial: None, build: lent_drops },
     Scenario { name: "first_come", trial: None, build: first_come },
+    Scenario { name: "late", trial: None, build: late },
     Scenario { name: "triangle", trial: None, build: triangle },
     Scenario { name: "storm", trial: None, build: storm },
     Scenario { name: "spins", trial: None, build: spins },
@@ -1090,6 +1091,28 @@ fn first_come(play: &mut Play) {
             assert_eq!(met, Some(number), "who waits longest is met first");
             wait_for_quiet();
         }
+    });
+}
+
+/// Two send to one who waits. Whoever of them is late waits longer than a third who comes behind them.
+fn late(play: &mut Play) {
+    let hub = hub(play.one_of(&[4, 8]), 3, 2);
+    let channel = hub.channel::<usize>();
+    let waits = channel.clone();
+    play.thread(move || assert!(waits.recv() < 2));
+    play.thread(move || {
+        let sends = |number| {
+            let channel = channel.clone();
+            spawn(move || channel.send(number))
+        };
+        wait_for_quiet();
+        let two = [sends(0), sends(1)];
+        wait_for_quiet();
+        let third = sends(2);
+        wait_for_quiet();
+        assert!(channel.recv() < 2, "who waits longest is met first");
+        assert_eq!(channel.recv(), 2);
+        two.into_iter().chain([third]).for_each(|thread| thread.join().unwrap());
     });
 }
 
