@@ -13,7 +13,7 @@ loop-thread-preserved c =
     let m : Suspended = record { machine = c.in_ok-new.field-0 } in
     let pushed : c.push.new.self.items ≡ c.loop-thread.first.items ++ m ∷ [] = c.in_ok-push.ensures.items in
     let value : c.in_ok-new.field-0.value ≡ c.in_ok-machine.machine = (search rules) in
-    let starts : StartsAs (proc_of c.index-processes-thread.result) c.loop-thread.thread m.machine.value = subst (λ (x : Thread). StartsAs (proc_of c.index-processes-thread.result) c.loop-thread.thread x) (sym value) c.in_ok-machine.ensures in
+    let starts : StartsAs (proc_of c.index-processes-thread.result) c.loop-thread.thread m.machine.value = subst (λ (x : Thread). StartsAs (proc_of c.index-processes-thread.result) c.loop-thread.thread x) (sym value) c.in_ok-machine.ensures.starts in
     let got : slice_get c.args.processes.now c.loop-thread.thread ≡ Some c.index-processes-thread.result = (search (rules, slice_get-get_or)) in
     let there : slice_get (map proc_of c.args.processes.now) c.loop-thread.thread ≡ Some (proc_of c.index-processes-thread.result) = slice_get-map proc_of c.args.processes.now c.loop-thread.thread ∙ ap (option_map proc_of) got in
     subst (λ (l : List Suspended). (length l ≡ c.loop-thread.thread + 1) × ((i : ℕ) (n : Suspended) → slice_get l i ≡ Some n → (q : Proc) × (slice_get (map proc_of c.args.processes.now) i ≡ Some q) × StartsAs q i n.machine.value)) (sym pushed)
