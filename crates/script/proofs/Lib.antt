@@ -9,3 +9,7 @@ pub mod Wholes
 pub mod FirstTold
 pub mod Good
 pub mod Declared
+pub mod Putting
+pub mod Symbols
+pub mod Given
+pub mod Lined

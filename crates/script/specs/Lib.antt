@@ -5,3 +5,5 @@ pub mod Spelling
 pub mod FirstFaults
 pub mod Names
 pub mod Appending
+pub mod Lines
+pub mod Lining

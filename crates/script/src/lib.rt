@@ -14,6 +14,8 @@
 //!   grammar say it (`FirstFaults`): whatever is written and begins with the tokens up to the fault's has
 //!   it. And the first fault of a text that is not too long is told, unless memory runs out.
 //! - `first_fault` tells of tokens what a reading of them from left to right does.
+//! - The lines in the trees of a script are those of its text: the statements of its processes are those that are
+//!   written there, each with its word, in the same order and at the same lines (`AreLined`).
 //! - What is read keeps the limits: each process has them by its own invariant (`script_tree::Proc`).
 //! - The counts and the names of a script are those of the script that was read.
 //! - Each call ends. Reading goes down by what is left of 49 levels, and loops over statements,
@@ -24,7 +26,9 @@ ghost use Rattle.script.specs.FirstFaults.{ScriptsAreAnswered};
 ghost use Rattle.script.specs.Names.{DeclaresNames};
 ghost use Rattle.script.specs.Spelling.{SpellsOnlyOne};
 
+mod copying;
 mod fault;
+mod lining;
 mod reading;
 mod script;
 

@@ -1,7 +1,7 @@
 //! Declared channels, processes and whole texts, read from the front.
 
-ghost use Rattle.std.specs.Prelude.{◌≡◌, ◌<◌, ◌≤◌, [], ◌∷◌, ◌++◌, None, Err, IfOk, IfErr, OnOk, MatchOption, length, map};
-ghost use Rattle.script_token.specs.Lexemes.{last_line, seen};
+ghost use Rattle.std.specs.Prelude.{◌≡◌, ◌+◌, ◌<◌, ◌≤◌, [], ◌∷◌, ◌++◌, None, Err, IfOk, IfErr, OnOk, MatchOption, length, map};
+ghost use Rattle.script_token.specs.Lexemes.{last_line, placed_tokens, seen};
 ghost use Rattle.script_reader.specs.Places.{texts};
 ghost use Rattle.script_grammar.specs.Meaning.{place};
 ghost use Rattle.script_faults.specs.Laws.{IsRead};
@@ -9,11 +9,14 @@ ghost use Rattle.script_reader.specs.Steps.{Gives, Tells as Tells', bare, here, 
 ghost use Rattle.script.specs.Scripts.{drawn, proc_from, declare_at, channel_next, channels_at, process_next, processes_at, script_at, script_of, line_left, fault_at, text_at, Answers};
 ghost use Rattle.script.specs.FirstFaults.{Tells, FirstIsTold};
 ghost use Rattle.script.specs.Spelling.{Spells, Refuses};
+ghost use Rattle.script.specs.Lines.{AreLined, line_of, text_words, trees_of_script};
+ghost use Rattle.script.specs.Lining.{IsLined, count_block, lined_all, lined_block, lined_of, trees_in};
 ghost use Rattle.script_tree.specs.Processes.{proc_of, string_texts};
 ghost use Rattle.script_tree.specs.Limits.{KeepsLimits};
 ghost use Rattle.script_tree.specs.Trees.{block_of};
 
 use crate::fault::ScriptFault;
+use crate::lining::{statement_lines, with_lines};
 use crate::script::Script;
 use script_reader::fault::{Fault, Problem, Stop};
 use script_reader::scope::{Counts, NAME_LEN, Scope};
@@ -104,21 +107,33 @@ fn channels<'a>(
     Ok((table, rest))
 }
 
-/// The processes of a script that is being read, and the names there, theirs among them.
+/// The processes of a script that is being read, the names there, theirs among them, and how many lines their
+/// statements took.
 #[derive(Drop)]
 struct Draft<'a> {
     processes: Vec<Proc>,
     scope: Scope<'a>,
+    next: usize,
 }
 
-fn proc_with(alloc: Global, name: &str, block: Block, scope: &Scope<'_>) -> Result<Proc, AllocError>
-    requires limits { KeepsLimits (record { channels = length (here scope.now).channels; variables = length (here scope.now).variables; processes = length (here scope.now).processes }) (block_of block) }
+/// The process with this block, whose statements get the next lines.
+fn proc_with(
+    alloc: Global,
+    name: &str,
+    block: &Block,
+    lines: &[u32],
+    next: &mut usize,
+    scope: &Scope<'_>,
+) -> Result<Proc, AllocError>
+    requires limits { KeepsLimits (record { channels = length (here scope.now).channels; variables = length (here scope.now).variables; processes = length (here scope.now).processes }) (block_of block.now) }
     requires place { length (here scope.now).processes < 64 }
-    ensures { IfOk result (λ p. proc_of p ≡ proc_from name.now (block_of block) (here scope.now)) }
+    ensures value { IfOk result (λ p. proc_of p ≡ proc_from name.now (block_of block.now) (here scope.now)) }
+    ensures lined { IfOk result (λ p. lined_of p ≡ lined_block lines.now next.old (block_of block.now)) }
+    ensures next { OnOk result (next.new ≡ next.old + count_block (block_of block.now)) }
 {
     let variables = owned(alloc, scope.variables.names(alloc)?)?;
     let name = String::from_str(alloc, name)?;
-    let body = Arc::new(alloc, block)?;
+    let body = with_lines(alloc, lines, next, block)?;
     let channels = scope.channels.len();
     let earlier = scope.processes.len() as u8;
     Ok(Proc::new(name, body, variables, channels, earlier))
@@ -129,21 +144,25 @@ fn proc_with(alloc: Global, name: &str, block: Block, scope: &Scope<'_>) -> Resu
 fn process<'a>(
     alloc: Global,
     draft: &mut Draft<'a>,
+    lines: &[u32],
     tokens: &'a [Placed<'a>],
 ) -> Result<&'a [Placed<'a>], Stop>
-    ensures { Gives (λ x. drawn draft.new (bare x.now)) result (process_next (drawn draft.old (bare tokens.now))) }
+    ensures value { Gives (λ x. drawn draft.new (bare x.now)) result (process_next (drawn draft.old (bare tokens.now))) }
+    ensures lined { OnOk result (IsLined lines.now draft.old → IsLined lines.now draft.new) }
 {
     let rest = expect(tokens, ROOM, Symbol::Process)?;
+    let mut next = draft.next;
     let scope = &mut draft.scope;
     let (name, rest) = new_name(&scope.processes, PROCESSES, rest)?;
     scope.variables = Table::new(alloc);
     // A block leaves the counts as they were, so they are 0 here; set anew they are known to be.
     scope.counts = Counts { bases: 0, nacks: 0 };
     let (block, rest) = read_block(alloc, scope, rest, ROOM, Loops::Allowed)?;
-    let process = proc_with(alloc, name, block, scope)?;
+    let process = proc_with(alloc, name, &block, lines, &mut next, scope)?;
     // From here on the process can be named.
     scope.processes.add(name)?;
     draft.processes.push(process)?;
+    draft.next = next;
     Ok(rest)
 }
 
@@ -152,20 +171,23 @@ fn process<'a>(
 fn processes<'a>(
     alloc: Global,
     channels: Table<'a>,
+    lines: &[u32],
     tokens: &'a [Placed<'a>],
 ) -> Result<(Draft<'a>, &'a [Placed<'a>]), Stop>
-    ensures { Gives (λ x. drawn x.0 (bare x.1.now)) result (processes_at (texts channels.entry.names.items) (bare tokens.now)) }
+    ensures value { Gives (λ x. drawn x.0 (bare x.1.now)) result (processes_at (texts channels.entry.names.items) (bare tokens.now)) }
+    ensures lined { IfOk result (λ x. IsLined lines.now x.0) }
 {
     let mut draft = Draft {
         processes: Vec::new(alloc),
         scope: Scope::new(alloc, channels),
+        next: 0,
     };
     let (mut rest, count) = begin(tokens);
     for _turn in 0..count {
         if is_end(rest) {
             return Ok((draft, rest));
         }
-        let after = process(alloc, &mut draft, rest)?;
+        let after = process(alloc, &mut draft, lines, rest)?;
         rest = after;
     }
     Ok((draft, rest))
@@ -174,14 +196,17 @@ fn processes<'a>(
 /// The channels' names and the processes of a whole script.
 #[tactic(auto, unfolding(crate::specs::Scripts::script_at))]
 fn whole<'a>(alloc: Global, tokens: &'a [Placed<'a>]) -> Result<(Vec<String>, Vec<Proc>), Stop>
-    ensures { Gives (λ x. record { channels = string_texts x.0.items; processes = map proc_of x.1.items }) result (script_at (bare tokens.now)) }
+    ensures value { Gives (λ x. record { channels = string_texts x.0.items; processes = map proc_of x.1.items }) result (script_at (bare tokens.now)) }
+    ensures lined { IfOk result (λ x. trees_in x.1.items ≡ lined_all (map line_of (text_words (seen tokens.now))) 0 (map proc_of x.1.items)) }
 {
+    let lines = statement_lines(alloc, tokens)?;
     let (channels, rest) = channels(alloc, tokens)?;
-    let (draft, _) = processes(alloc, channels, rest)?;
+    let (draft, _) = processes(alloc, channels, &lines, rest)?;
     let channels = owned(alloc, draft.scope.channels.names(alloc)?)?;
     let Draft {
         processes,
         scope: _,
+        next: _,
     } = draft;
     Ok((channels, processes))
 }
@@ -212,7 +237,8 @@ fn fault_at(problem: Problem, line: usize) -> ScriptFault
 /// What the bytes say, read from left to right.
 #[tactic(auto, unfolding(crate::specs::Scripts::text_at))]
 fn read_text(alloc: Global, bytes: &[u8]) -> Result<Script, ScriptFault>
-    ensures { Answers result (text_at bytes.now) }
+    ensures text { Answers result (text_at bytes.now) }
+    ensures lined { IfOk result (λ s. trees_in s.processes.items ≡ lined_all (map line_of (text_words (placed_tokens bytes.now))) 0 (script_of s).processes) }
 {
     if bytes.len() > TEXT_LEN {
         return Err(ScriptFault::TooLong);
@@ -249,6 +275,7 @@ pub fn parse(alloc: Global, bytes: &[u8]) -> Result<Script, ScriptFault>
     ensures refused { IfErr result (Refuses bytes.now) }
     ensures told { IfErr result (Tells bytes.now) }
     ensures first { FirstIsTold bytes.now result }
+    ensures lined { IfOk result (λ s. AreLined bytes.now (trees_of_script s)) }
 {
     let read = read_text(alloc, bytes);
     read

@@ -26,7 +26,9 @@ pub struct Script {
 impl Script {
     ghost use Rattle.std.specs.Prelude.{◌≡◌, ◌<◌, Some, slice_get};
     ghost use Rattle.std.specs.Option.{option_map};
+    ghost use Rattle.script.specs.Lines.{trees_of_script};
     ghost use Rattle.script.specs.Scripts.{script_of, IsScript};
+    ghost use Rattle.script_tree.specs.Processes.{tree_of};
 
     /// The processes, in their order.
     pub fn processes(&self) -> &[Proc]
@@ -35,6 +37,7 @@ impl Script {
         ensures limits { IsScript (script_of self.now) }
         ensures spelled { IsSpelled (script_of self.now) }
         ensures placed { IsPlaced (map proc_of result.now) }
+        ensures trees { map tree_of result.now ≡ trees_of_script self.now }
     {
         &self.processes
     }

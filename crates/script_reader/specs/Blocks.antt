@@ -5,16 +5,10 @@ use Rattle.script_reader.specs.Steps.{Told, ◌>>=◌, stop_at, repeated, name_a
 use Rattle.script_grammar.specs.Meaning.{if_some}
 use Rattle.script_reader.specs.Exprs.{expr_at, list_at, test_at}
 use Rattle.script_tree.specs.Trees.{Event, Sends, Receives, IsReady, IsNever, IsCancelled, IsJoined, Chooses, Wraps, Guards, Nacks, Events, NoMembers, Members, Stmt, Lets, Prints, Syncs, Branches, Loops, LoopsForever, Ends, Spawns, Block, Stops, Runs, LoopBody}
-use Rattle.script_tree.specs.Trees.{stmt_of}
-use Rattle.script_tree.specs.declared.tree.Stmt.{Stmt as SeenStmt}
 use Rattle.script_reader.specs.declared.process.Loops.{Loops as Place}
 use Rattle.script_reader.specs.declared.process.Loops.TheVariants.{Allowed, Forbidden}
 use Rattle.script_reader.specs.declared.fault.Problem.TheVariants.{Syntax, TooMany, LoopWithoutSync}
 use Rattle.script_token.specs.declared.kind.Symbol.TheVariants.{Let, Print, Sync, If, Else, Loop, Forever, End, Send, Recv, Always, Never, Cancelled, Choose, Wrap, As, To, Guard, Nack, Spawn, Joined, Semicolon, Comma, OpenBrace, CloseBrace, OpenBracket, CloseBracket, Equal, Arrow}
-
--- a statement that was read, without its line
-abbrev pub stmt_in : SeenStmt × ℕ → Stmt
-stmt_in s = stmt_of s.0
 
 -- what is read, the names from there on, and the tokens behind it
 abbrev pub Reads : Type 0 → Type 0

@@ -1,11 +1,13 @@
 //! Events, statements and blocks, read from the front. What was read goes into its share at once: a tree
 //! that lay about while the next step may fail would be dropped there case by case, and proved so.
+//!
+//! Trees that are read have no lines yet, but 0 for each. `script` writes the lines.
 
 ghost use Rattle.std.specs.Prelude.{◌≡◌, ◌<◌, ◌-◌, IfOk, OnOk, map};
 ghost use Rattle.std.specs.Option.{option_map};
 ghost use Rattle.script_reader.specs.Steps.{Gives, Tells, bare, here};
 ghost use Rattle.script_tree.specs.Trees.{event_of, events_of, stmt_of, block_of, turn_of, names_of};
-ghost use Rattle.script_reader.specs.Blocks.{chain, body, base_at, nack_word_at, send_at, recv_at, always_at, never_at, cancelled_at, joined_at, as_names_at, members_with, choose_with, wrap_with, guard_with, nack_with, event_at, synced_with, sync_with, let_at, print_at, end_at, spawn_at, branch_with, stmt_in, times_at, counted_with, forever_with, are_allowed, stmt_at, stmts_with, block_at, is_no_sync, turn_at};
+ghost use Rattle.script_reader.specs.Blocks.{chain, body, base_at, nack_word_at, send_at, recv_at, always_at, never_at, cancelled_at, joined_at, as_names_at, members_with, choose_with, wrap_with, guard_with, nack_with, event_at, synced_with, sync_with, let_at, print_at, end_at, spawn_at, branch_with, times_at, counted_with, forever_with, are_allowed, stmt_at, stmts_with, block_at, is_no_sync, turn_at};
 
 use crate::expr::{read_expr, read_list, read_test};
 use crate::fault::{Fault, Problem, Stop};
@@ -47,22 +49,14 @@ fn link_events(alloc: Global, mut events: Vec<Event>) -> Result<Events, AllocErr
     Ok(linked)
 }
 
-fn link_stmts(alloc: Global, mut stmts: Vec<(Stmt, u32)>) -> Result<Block, AllocError>
-    ensures { IfOk result (λ b. block_of b ≡ body (map stmt_in stmts.items)) }
+fn link_stmts(alloc: Global, mut stmts: Vec<Stmt>) -> Result<Block, AllocError>
+    ensures { IfOk result (λ b. block_of b ≡ body (map stmt_of stmts.items)) }
 {
     let mut linked = Block::Done;
-    while let Some((stmt, line)) = stmts.pop() {
-        linked = Block::Then(stmt, line, Arc::new(alloc, linked)?);
+    while let Some(stmt) = stmts.pop() {
+        linked = Block::Then(stmt, 0, Arc::new(alloc, linked)?);
     }
     Ok(linked)
-}
-
-/// The line at which the tokens begin.
-fn line_of(tokens: &[Placed<'_>]) -> u32 {
-    match tokens.first() {
-        Some(placed) => placed.line.min(65536) as u32,
-        None => 0,
-    }
 }
 
 /// The word of a base event, which is counted.
@@ -585,7 +579,6 @@ fn read_turn<'a>(
             left: word,
         }));
     }
-    let line = line_of(rest);
     let (names, event, rest) = read_sync(alloc, scope, rest, nesting - 1)?;
     let (stmts, rest) = statements(alloc, scope, rest, nesting - 1, Loops::Allowed)?;
     let rest = expect(rest, nesting - 1, Symbol::CloseBrace)?;
@@ -595,7 +588,7 @@ fn read_turn<'a>(
         names,
         event,
         rest: rest_of_turn,
-        line,
+        line: 0,
     };
     Ok((turn, rest))
 }
@@ -609,8 +602,8 @@ fn statements<'a>(
     tokens: &'a [Placed<'a>],
     nesting: usize,
     loops: Loops,
-) -> Result<(Vec<(Stmt, u32)>, &'a [Placed<'a>]), Stop>
-    ensures { Gives (λ x. (map stmt_in x.0.items, here scope.new, bare x.1.now)) result (stmts_with (stmt_at nesting) loops (here scope.old) (bare tokens.now)) }
+) -> Result<(Vec<Stmt>, &'a [Placed<'a>]), Stop>
+    ensures { Gives (λ x. (map stmt_of x.0.items, here scope.new, bare x.1.now)) result (stmts_with (stmt_at nesting) loops (here scope.old) (bare tokens.now)) }
 {
     let mut stmts = Vec::new(alloc);
     let (mut rest, count) = begin(tokens);
@@ -619,7 +612,7 @@ fn statements<'a>(
             return Ok((stmts, rest));
         }
         let (stmt, after) = read_stmt(alloc, scope, rest, nesting, loops)?;
-        stmts.push((stmt, line_of(rest)))?;
+        stmts.push(stmt)?;
         rest = after;
     }
     Ok((stmts, rest))

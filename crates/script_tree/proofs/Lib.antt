@@ -1,3 +1,4 @@
 pub mod Texts
 pub mod Crossing
 pub mod Masks
+pub mod Lines

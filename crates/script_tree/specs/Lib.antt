@@ -1,4 +1,5 @@
 pub mod Trees
+pub mod Lined
 pub mod Limits
 pub mod Processes
 pub mod Spawning

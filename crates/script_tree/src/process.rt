@@ -38,7 +38,8 @@ impl Proc {
     ) -> Proc
         requires limits { KeepsLimits (record { channels = channels; variables = length variables.items; processes = earlier }) (block_of body.value) }
         requires place { earlier < 64 }
-        ensures { proc_of result ≡ record { name = string_bytes name; body = block_of body.value; variables = string_texts variables.items; channels = channels; earlier = earlier } }
+        ensures value { proc_of result ≡ record { name = string_bytes name; body = block_of body.value; variables = string_texts variables.items; channels = channels; earlier = earlier } }
+        ensures tree { tree_of result ≡ body.value }
     {
         Proc {
             name,

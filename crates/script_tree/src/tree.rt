@@ -139,7 +139,7 @@ pub enum Stmt {
 #[cycle(process)]
 pub enum Block {
     Done,
-    /// A statement, the line of its first word, and what follows.
+    /// A statement, the line of its word (`let`, `sync` and so on), and what follows.
     Then(Stmt, u32, Arc<Block>),
 }
 
@@ -150,7 +150,7 @@ pub struct LoopBody {
     pub names: Option<Names>,
     pub event: Arc<Event>,
     pub rest: Arc<Block>,
-    /// The line at which the sync begins.
+    /// The line of the word `sync`.
     pub line: u32,
 }
 

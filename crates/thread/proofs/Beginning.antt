@@ -4,8 +4,8 @@ use Rattle.std.proofs.Math.Seq.{drop-length, take-length}
 use Rattle.std.specs.Prelude.{bit_or}
 use Rattle.thread_code.specs.Stages.{Stage, Offered, Performed, Made, stages, stages_of_all}
 use Rattle.thread_code.specs.declared.Code.{Code}
-use Rattle.thread_code.specs.Lined.{nack_count}
-use Rattle.thread_code.specs.Lined.{Event, Sends, Receives, IsReady, IsNever, IsCancelled, IsJoined, Chooses, Wraps, Guards, Nacks, Events, NoMembers, Members, LoopBody}
+use Rattle.script_tree.specs.Lined.{nack_count}
+use Rattle.script_tree.specs.Lined.{Event, Sends, Receives, IsReady, IsNever, IsCancelled, IsJoined, Chooses, Wraps, Guards, Nacks, Events, NoMembers, Members, LoopBody}
 use Rattle.protocol_values.specs.declared.Offer.{Offer}
 use Rattle.thread.specs.declared.stack.Opening.{Opening}
 use Rattle.thread.specs.Standing.{at_line, State, Goes, ◌>>=◌, run_block, synced}

@@ -6,9 +6,9 @@ use Rattle.thread_code.specs.Stages.{stages}
 use Rattle.thread_code.specs.declared.Code.{Code}
 use Rattle.thread_code.specs.declared.Plan.{Plan}
 use Rattle.event.specs.Tree.{offers, scope_nacks}
-use Rattle.thread_code.specs.Lined.{base_count}
+use Rattle.script_tree.specs.Lined.{base_count}
 use Rattle.script_tree.specs.Trees.{names_of}
-use Rattle.thread_code.specs.Lined.{LoopBody, event_of}
+use Rattle.script_tree.specs.Lined.{LoopBody, event_of}
 use Rattle.protocol_values.specs.declared.Message.{Message}
 use Rattle.protocol_values.specs.declared.Offer.{Offer}
 use Rattle.thread.specs.declared.stack.Opening.{Opening}

@@ -8,7 +8,7 @@ use Rattle.thread_code.specs.declared.Code.{Code}
 use Rattle.thread_code.specs.declared.Plan.{Plan}
 use Rattle.thread_code.specs.declared.Stage.{Stage as SeenStage}
 use Rattle.thread_code.specs.declared.Stage.TheVariants as seen
-use Rattle.thread_code.specs.Lined.{Block, event_of}
+use Rattle.script_tree.specs.Lined.{Block, event_of}
 use Rattle.protocol_values.specs.declared.Base.{Base}
 use Rattle.protocol_values.specs.declared.Offer.{Offer}
 use Rattle.thread.specs.declared.Fault.{Fault}

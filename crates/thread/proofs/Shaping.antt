@@ -8,8 +8,8 @@ use Rattle.event.proofs.StepLemmas.{offers_within-Single, offers_within-Or, offe
 use Rattle.event.proofs.TreeLemmas.{scope_count-Or}
 use Rattle.event.specs.Steps.{offers_within}
 use Rattle.event.specs.Tree.{Tree, Single, Or, Wrap, offers, scope_count, scope_nacks}
-use Rattle.thread_code.specs.Lined.{base_count, nack_count, bases_of_all, nacks_of_all}
-use Rattle.thread_code.specs.Lined.{Event, Sends, Receives, IsReady, IsNever, IsCancelled, IsJoined, Chooses, Wraps, Guards, Nacks, Events, NoMembers, Members}
+use Rattle.script_tree.specs.Lined.{base_count, nack_count, bases_of_all, nacks_of_all}
+use Rattle.script_tree.specs.Lined.{Event, Sends, Receives, IsReady, IsNever, IsCancelled, IsJoined, Chooses, Wraps, Guards, Nacks, Events, NoMembers, Members}
 use Rattle.protocol_values.specs.declared.Base.{Base}
 use Rattle.protocol_values.specs.declared.Base.TheVariants.{Never}
 use Rattle.protocol_values.specs.declared.Offer.{Offer}

@@ -5,7 +5,7 @@ use Rattle.std.specs.Option.{option_map}
 use Rattle.thread_code.specs.Codes.{BlockLeads, HasPlan, IsAt, IsLinked, StmtLeads}
 use Rattle.thread_code.specs.declared.Code.{Code}
 use Rattle.thread_code.specs.declared.Place.{Place}
-use Rattle.thread_code.specs.Lined.{Block, Runs, Stmt, Event, LoopBody, block_of}
+use Rattle.script_tree.specs.Lined.{Block, Runs, Stmt, Event, LoopBody, block_of}
 use Rattle.thread.specs.declared.stack.Frame.{Frame}
 use Rattle.thread.specs.Fitting.{FrameFits, FramesFit, HasPlace, HasSync}
 use Rattle.thread.specs.Reaches.{frame_reach, frames_reach}

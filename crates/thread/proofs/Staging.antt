@@ -6,8 +6,8 @@ use Rattle.std.proofs.Math.ListN.{get_or-append}
 use Rattle.std.specs.Prelude.{⊤, bit_or}
 use Rattle.thread_code.specs.Stages.{Stage, Offered, Performed, Made, stages, stages_of_all}
 use Rattle.event.specs.Tree.{Single, Nothing, Or, Wrap, Scope}
-use Rattle.thread_code.specs.Lined.{base_count, nack_count, bases_of_all, nacks_of_all}
-use Rattle.thread_code.specs.Lined.{Event, Sends, Receives, IsReady, IsNever, IsCancelled, IsJoined, Chooses, Wraps, Guards, Nacks, Events, NoMembers, Members, Block}
+use Rattle.script_tree.specs.Lined.{base_count, nack_count, bases_of_all, nacks_of_all}
+use Rattle.script_tree.specs.Lined.{Event, Sends, Receives, IsReady, IsNever, IsCancelled, IsJoined, Chooses, Wraps, Guards, Nacks, Events, NoMembers, Members, Block}
 use Rattle.protocol_values.specs.declared.Base.{Base}
 use Rattle.protocol_values.specs.declared.Base.TheVariants.{Never}
 use Rattle.protocol_values.specs.declared.Offer.{Offer}

@@ -5,7 +5,7 @@ use Rattle.thread_code.specs.Codes.{HasPlan, IsAt, IsLinked}
 use Rattle.thread_code.specs.declared.Code.{Code}
 use Rattle.thread_code.specs.declared.Place.{Place}
 use Rattle.script_tree.specs.Trees.{Test}
-use Rattle.thread_code.specs.Lined.{Block, Runs, Stmt, Syncs, Branches, Loops, LoopsForever, Event, block_of}
+use Rattle.script_tree.specs.Lined.{Block, Runs, Stmt, Syncs, Branches, Loops, LoopsForever, Event, block_of}
 use Rattle.thread.specs.declared.stack.Frame.{Frame}
 use Rattle.thread.specs.declared.stack.Frame.TheVariants.{Rest, Times, Endless}
 use Rattle.thread.specs.declared.stack.Opening.{Opening}

@@ -1,6 +1,6 @@
 -- Endless loops: each turn takes a result, so more turns than there are results make no difference.
 use Rattle.std.proofs.Common.{◌≡◌, ℕ, zero, suc, ◌<◌, length, ap, ◌∙◌, arith}
-use Rattle.thread_code.specs.Lined.{LoopBody}
+use Rattle.script_tree.specs.Lined.{LoopBody}
 use Rattle.thread.specs.Standing.{State, Outcome, ◌>>=◌, times, endless}
 use Rattle.thread.specs.Stacks.{turn_on}
 use Rattle.thread.proofs.Forgetting.{turn_takes}

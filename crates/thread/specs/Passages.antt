@@ -1,6 +1,6 @@
 -- How far a message has come on its way out of an event.
 use Rattle.std.specs.Prelude.{◌≡◌, ℕ, List, Result, Ok, Err}
-use Rattle.thread_code.specs.Lined.{Event}
+use Rattle.script_tree.specs.Lined.{Event}
 use Rattle.protocol_values.specs.declared.Message.{Message}
 use Rattle.thread.specs.declared.Fault.{Fault}
 use Rattle.thread.specs.declared.commit.Passage.{Passage}

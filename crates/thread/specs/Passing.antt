@@ -1,6 +1,6 @@
 -- A message on its way out of an event, from one of its base events through the wraps round that.
 use Rattle.std.specs.Prelude.{ℕ, zero, suc, Some}
-use Rattle.thread_code.specs.Lined.{Event, Sends, Receives, IsReady, IsNever, IsCancelled, IsJoined, Chooses, Wraps, Guards, Nacks, Events, NoMembers, Members}
+use Rattle.script_tree.specs.Lined.{Event, Sends, Receives, IsReady, IsNever, IsCancelled, IsJoined, Chooses, Wraps, Guards, Nacks, Events, NoMembers, Members}
 use Rattle.protocol_values.specs.declared.Message.{Message}
 use Rattle.thread.specs.After.{Wrapping}
 use Rattle.thread.specs.Standing.{State, Outcome, Goes, ◌>>=◌, Having, wrapped_once}

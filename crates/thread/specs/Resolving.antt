@@ -2,7 +2,7 @@
 use Rattle.std.specs.Prelude.{ℕ, List, [], ◌∷◌, ◌++◌, map, Result, Ok}
 use Rattle.thread_code.specs.Stages.{Stage, Offered, Performed, Made}
 use Rattle.event.specs.Tree.{Tree}
-use Rattle.thread_code.specs.Lined.{Event, Sends, Receives, IsReady, IsCancelled, IsJoined}
+use Rattle.script_tree.specs.Lined.{Event, Sends, Receives, IsReady, IsCancelled, IsJoined}
 use Rattle.protocol_values.specs.declared.Base.{Base}
 use Rattle.protocol_values.specs.declared.Base.TheVariants.{Never, OnEnd}
 use Rattle.protocol_values.specs.declared.Offer.{Offer}

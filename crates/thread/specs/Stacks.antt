@@ -6,7 +6,7 @@ use Rattle.thread_code.specs.Stages.{stages}
 use Rattle.thread_code.specs.declared.Code.{Code}
 use Rattle.thread_code.specs.declared.Plan.{Plan}
 use Rattle.script_tree.specs.Trees.{names_of}
-use Rattle.thread_code.specs.Lined.{Block, Stops, IsNever, LoopBody, event_of}
+use Rattle.script_tree.specs.Lined.{Block, Stops, IsNever, LoopBody, event_of}
 use Rattle.protocol_values.specs.declared.Message.{Message}
 use Rattle.thread.specs.declared.Fault.{Fault}
 use Rattle.thread.specs.declared.memory.Memory.{Memory}

@@ -4,7 +4,7 @@ ghost use Rattle.std.specs.Prelude.{◌≡◌, ◌<◌, ◌∷◌, List, Some, l
 ghost use Rattle.std.specs.Option.{option_map};
 ghost use Rattle.thread_code.specs.Codes.{IsLinked};
 ghost use Rattle.script_tree.specs.Trees.{exprs_of, names_of};
-ghost use Rattle.thread_code.specs.Lined.{event_of};
+ghost use Rattle.script_tree.specs.Lined.{event_of};
 ghost use Rattle.thread.specs.After.{Chosen};
 ghost use Rattle.thread.specs.Standing.{wrapped_once};
 ghost use Rattle.thread.specs.Fitting.{StepFits, StopFits};

@@ -3,7 +3,7 @@
 ghost use Rattle.std.specs.Prelude.{◌≡◌, IfOk, List};
 ghost use Rattle.thread_code.specs.Codes.{IsLinked};
 ghost use Rattle.script_tree.specs.Trees.{exprs_of};
-ghost use Rattle.thread_code.specs.Lined.{event_of};
+ghost use Rattle.script_tree.specs.Lined.{event_of};
 ghost use Rattle.thread.specs.After.{Chosen, channel_value, nack_value, send_value, recv_value, always_value, cancelled_value};
 ghost use Rattle.thread.specs.Fitting.{NowFits, StepFits};
 ghost use Rattle.thread.specs.Reaches.{Falls, now_reach};

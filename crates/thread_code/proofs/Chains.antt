@@ -1,7 +1,7 @@
 -- The statements of a block, one behind another.
 use Rattle.std.proofs.Common.{◌≡◌, ℕ, List, [], ◌∷◌, ◌++◌, sym, ◌∙◌, ap, subst}
 use Rattle.std.specs.declared.sync.Arc.{Arc}
-use Rattle.thread_code.specs.Lined.{block_of}
+use Rattle.script_tree.specs.Lined.{block_of}
 use Rattle.script_tree.specs.declared.tree.Block.{Block as SeenBlock, Done, Then'}
 use Rattle.thread_code.specs.declared.Code.{Code}
 use Rattle.thread_code.specs.Codes.{IsAt, LeadsTo}

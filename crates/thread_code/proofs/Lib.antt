@@ -1,4 +1,3 @@
 pub mod Growing
 pub mod Chains
-pub mod Lines
 pub mod Limits

@@ -2,7 +2,7 @@
 use Rattle.std.specs.Prelude.{◌≡◌, ℕ, List, [], ◌∷◌, Option, Some, slice_get, ⊤}
 use Rattle.std.specs.Option.{option_map}
 use Rattle.script_tree.specs.Trees.{names_of}
-use Rattle.thread_code.specs.Lined.{Event, Stmt, Lets, Prints, Syncs, Branches, Loops, LoopsForever, Ends, Spawns, Block, Stops, Runs, IsSmall, block_of, event_of}
+use Rattle.script_tree.specs.Lined.{Event, Stmt, Lets, Prints, Syncs, Branches, Loops, LoopsForever, Ends, Spawns, Block, Stops, Runs, IsSmall, block_of, event_of}
 use Rattle.thread_code.specs.declared.Place.{Place}
 use Rattle.thread_code.specs.declared.Plan.{Plan}
 use Rattle.thread_code.specs.declared.Stage.{Stage as SeenStage}

@@ -1,6 +1,6 @@
 -- Each sync has at most 8 base events and 4 nacks, also those in the bodies of guards and nacks.
 use Rattle.std.specs.Prelude.{⊤}
-use Rattle.thread_code.specs.Lined.{IsSmall, Event, Sends, Receives, IsReady, IsNever, IsCancelled, IsJoined, Chooses, Wraps, Guards, Nacks, Events, NoMembers, Members, Stmt, Lets, Prints, Syncs, Branches, Loops, LoopsForever, Ends, Spawns, Block, Stops, Runs}
+use Rattle.script_tree.specs.Lined.{IsSmall, Event, Sends, Receives, IsReady, IsNever, IsCancelled, IsJoined, Chooses, Wraps, Guards, Nacks, Events, NoMembers, Members, Stmt, Lets, Prints, Syncs, Branches, Loops, LoopsForever, Ends, Spawns, Block, Stops, Runs}
 
 -- each sync in the bodies of its guards and nacks is small
 abbrev mutual

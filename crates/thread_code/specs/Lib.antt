@@ -1,4 +1,3 @@
-pub mod Lined
 pub mod Fitting
 pub mod Stages
 pub mod Codes

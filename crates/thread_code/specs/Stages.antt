@@ -1,6 +1,6 @@
 -- What is done to resolve an event, in the order of its text.
 use Rattle.std.specs.Prelude.{ℕ, ◌+◌, ◌^◌, List, [], ◌∷◌, ◌++◌, bit_or}
-use Rattle.thread_code.specs.Lined.{nack_count, Block, Event, Sends, Receives, IsReady, IsNever, IsCancelled, IsJoined, Chooses, Wraps, Guards, Nacks, Events, NoMembers, Members}
+use Rattle.script_tree.specs.Lined.{nack_count, Block, Event, Sends, Receives, IsReady, IsNever, IsCancelled, IsJoined, Chooses, Wraps, Guards, Nacks, Events, NoMembers, Members}
 
 -- a base event is evaluated, and offered within the scopes of this mask; a block runs; or the next nack is made, and
 -- set to this variable

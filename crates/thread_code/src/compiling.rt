@@ -8,7 +8,7 @@ ghost use Rattle.std.specs.Option.{option_map};
 ghost use Rattle.script_tree.specs.Trees.{names_of};
 ghost use Rattle.thread_code.specs.Codes.{AreStages, Grows, HasPlan, IsAt, IsCodeOf, IsLinked, Leads, LeadsTo};
 ghost use Rattle.thread_code.specs.Fitting.{BlockFits, EventFits};
-ghost use Rattle.thread_code.specs.Lined.{Block as Tree, IsSmall, block_of, event_of, events_of, nack_count, stmt_of};
+ghost use Rattle.script_tree.specs.Lined.{Block as Tree, IsSmall, block_of, event_of, events_of, nack_count, stmt_of};
 ghost use Rattle.thread_code.specs.Stages.{Stage as Part, stages};
 
 use crate::{Code, Place, Plan, Stage};

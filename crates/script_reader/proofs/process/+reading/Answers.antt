@@ -2,7 +2,7 @@ use Rattle.std.proofs.Common.{◌≡◌, ◌+◌, ◌-◌, List, [], ◌∷◌, 
 use Rattle.script_tree.specs.declared.tree.Event.{Event as SeenEvent}
 use Rattle.script_reader.specs.Steps.{bare, here, repeated, next_is}
 use Rattle.script_tree.specs.Trees.{Event, Stmt, event_of, stmt_of}
-use Rattle.script_reader.specs.Blocks.{event_at, stmt_at, members_with, stmt_in, stmts_with, member_step, stmt_step}
+use Rattle.script_reader.specs.Blocks.{event_at, stmt_at, members_with, stmts_with, member_step, stmt_step}
 use Rattle.script_token.specs.declared.kind.Symbol.TheVariants.{CloseBracket}
 use Rattle.script_reader.specs.declared.fault.Stop.TheVariants.{At}
 use Rattle.script_reader.proofs.Fronts.{length_bare}
@@ -77,7 +77,7 @@ statements-loop-turn-init t c =
     let rest : bare c.begin-count.result.0.now ≡ ts = ap bare c.begin-count.ensures.rest in
     let none : length ts - 0 ≡ length ts = omega arith in
     record {
-      same = rw (rest, none) (ap (λ (ss : List Stmt). repeated step (length ts) (ss, h, ts)) (ap (map stmt_in) c.new-stmts.ensures.items));
+      same = rw (rest, none) (ap (λ (ss : List Stmt). repeated step (length ts) (ss, h, ts)) (ap (map stmt_of) c.new-stmts.ensures.items));
       count = c.begin-count.ensures.count;
     }
 
@@ -86,10 +86,10 @@ statements-loop-turn-preserved t c =
     let stmt = stmt_at c.args.nesting in
     let place = c.args.loops in
     let step = stmt_step stmt place in
-    let s : SoFar Stmt = (map stmt_in c.loop-turn.stmts.items, here c.loop-turn.scope, bare c.loop-turn.rest.now) in
+    let s : SoFar Stmt = (map stmt_of c.loop-turn.stmts.items, here c.loop-turn.scope, bare c.loop-turn.rest.now) in
     let whole = repeated_step step (length (bare c.args.tokens.now)) c.loop-turn._turn s _ _ (omega (arith, c.loop-turn.invariant.count, c.loop-turn-test.true)) (stmt_step-some stmt place s c.if-is_next.ensures) c.loop-turn.invariant.same in
     let done = stmt_next-ok stmt place s (stmt_of c.in_ok-stmt.stmt, here c.read_stmt.new.scope, bare c.in_ok-stmt.after.now) c.in_ok-stmt.ensures in
-    let items = map_more stmt_in c.loop-turn.stmts.items c.push.new.self.items (c.in_ok-stmt.stmt, c.line_of.result) c.in_ok-push.ensures.items in
+    let items = map_more stmt_of c.loop-turn.stmts.items c.push.new.self.items c.in_ok-stmt.stmt c.in_ok-push.ensures.items in
     let left = length (bare c.args.tokens.now) - (c.loop-turn._turn + 1) in
     record {
       same = ap (λ (ss : List Stmt). repeated step left (ss, here c.read_stmt.new.scope, bare c.in_ok-stmt.after.now)) items ∙ goes_on step left _ _ _ done whole;
@@ -100,7 +100,7 @@ pub statements-returns-then-is_next : goal.statements-returns-then-is_next
 statements-returns-then-is_next t c =
     let stmt = stmt_at c.args.nesting in
     let place = c.args.loops in
-    let s : SoFar Stmt = (map stmt_in c.loop-turn.stmts.items, here c.loop-turn.scope, bare c.loop-turn.rest.now) in
+    let s : SoFar Stmt = (map stmt_of c.loop-turn.stmts.items, here c.loop-turn.scope, bare c.loop-turn.rest.now) in
     repeated_none (stmt_step stmt place) (length (bare c.args.tokens.now) - c.loop-turn._turn) s _ (stmt_step-none stmt place s c.if-is_next.ensures) c.loop-turn.invariant.same
 
 pub statements-returns-in_err-stmt : goal.statements-returns-in_err-stmt
@@ -108,7 +108,7 @@ statements-returns-in_err-stmt t c =
     let stmt = stmt_at c.args.nesting in
     let place = c.args.loops in
     let e = c.in_err-stmt.field-0.0 in
-    let s : SoFar Stmt = (map stmt_in c.loop-turn.stmts.items, here c.loop-turn.scope, bare c.loop-turn.rest.now) in
+    let s : SoFar Stmt = (map stmt_of c.loop-turn.stmts.items, here c.loop-turn.scope, bare c.loop-turn.rest.now) in
     let whole = repeated_step (stmt_step stmt place) (length (bare c.args.tokens.now)) c.loop-turn._turn s _ _ (omega (arith, c.loop-turn.invariant.count, c.loop-turn-test.true)) (stmt_step-some stmt place s c.if-is_next.ensures) c.loop-turn.invariant.same in
     gives_err _ c.from_residual.result e _ c.from_residual.ensures.1 (fails_same e _ _ whole (fails_bind e _ _ (stmt_next-fails stmt place s e c.in_err-stmt.ensures)))
 
@@ -116,5 +116,5 @@ pub statements-returns : goal.statements-returns
 statements-returns t c =
     let stmt = stmt_at c.args.nesting in
     let place = c.args.loops in
-    let s : SoFar Stmt = (map stmt_in c.loop-turn.stmts.items, here c.loop-turn.scope, bare c.loop-turn.rest.now) in
+    let s : SoFar Stmt = (map stmt_of c.loop-turn.stmts.items, here c.loop-turn.scope, bare c.loop-turn.rest.now) in
     repeated_all (stmt_step stmt place) (length (bare c.args.tokens.now)) c.loop-turn._turn s _ (omega (arith, c.loop-turn.invariant.count, c.loop-turn-test.false)) c.loop-turn.invariant.same

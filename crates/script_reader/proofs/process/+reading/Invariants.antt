@@ -1,7 +1,7 @@
 use Rattle.std.proofs.Common.{◌≡◌, ◌+◌, ◌-◌, ◌*◌, length, map}
 use Rattle.script_reader.specs.Steps.{bare, here, repeated}
-use Rattle.script_tree.specs.Trees.{event_of}
-use Rattle.script_reader.specs.Blocks.{event_at, stmt_at, member_step, stmt_step, members_with, stmt_in, stmts_with}
+use Rattle.script_tree.specs.Trees.{event_of, stmt_of}
+use Rattle.script_reader.specs.Blocks.{event_at, stmt_at, member_step, stmt_step, members_with, stmts_with}
 use Rattle.script_reader.proofs.process.+reading.Given as goal
 
 abbrev pub decreases-read_block : goal.decreases-read_block
@@ -57,7 +57,7 @@ invariant-members-loop-turn l =
 abbrev pub invariant-statements-loop-turn : goal.invariant-statements-loop-turn
 invariant-statements-loop-turn l = record {
   same :
-      repeated (stmt_step (stmt_at l.nesting) l.loops) (length (bare l.tokens) - l._turn) (map stmt_in l.stmts.items, here l.scope, bare l.rest)
+      repeated (stmt_step (stmt_at l.nesting) l.loops) (length (bare l.tokens) - l._turn) (map stmt_of l.stmts.items, here l.scope, bare l.rest)
       ≡ stmts_with (stmt_at l.nesting) l.loops (here l.fn.scope) (bare l.tokens);
   count : l.count ≡ length (bare l.tokens);
 }

@@ -1,7 +1,7 @@
 use Rattle.std.proofs.Common.{◌∙◌, Ok, sym, ap, subst}
 use Rattle.std.specs.Option.{option_map}
 use Rattle.script_tree.specs.Trees.{exprs_of, names_of}
-use Rattle.thread_code.specs.Lined.{event_of}
+use Rattle.script_tree.specs.Lined.{event_of}
 use Rattle.thread.specs.Passages.{Passes}
 use Rattle.thread.specs.Passing.{pass}
 use Rattle.thread.specs.Stacks.{state_of}

@@ -1,7 +1,7 @@
 use Rattle.std.proofs.Common.{◌≡◌, ◌<◌, List}
 use Rattle.script_tree.specs.declared.tree.Event.{size-Event}
 use Rattle.script_tree.specs.declared.tree.Events.{size-Events}
-use Rattle.thread_code.specs.Lined.{event_of, events_of}
+use Rattle.script_tree.specs.Lined.{event_of, events_of}
 use Rattle.thread.specs.After.{Chosen}
 use Rattle.thread.specs.Passing.{pass, pass_all}
 use Rattle.thread.specs.Stacks.{state_of}

@@ -1,5 +1,5 @@
 use Rattle.std.proofs.Common.{◌∙◌, [], Ok, sym, ap, ap₂, subst₂}
-use Rattle.thread_code.specs.Lined.{event_of}
+use Rattle.script_tree.specs.Lined.{event_of}
 use Rattle.thread.specs.Standing.{◌>>=◌, run_block}
 use Rattle.thread.specs.Passages.{Passes}
 use Rattle.thread.specs.Passing.{pass}

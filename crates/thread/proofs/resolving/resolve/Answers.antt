@@ -2,7 +2,7 @@ use Rattle.std.proofs.Common.{rules, ◌≡◌, ◌+◌, ◌∙◌, arith, Some,
 use Rattle.std.proofs.lemmas.Bool.Decides.{nat_tests}
 use Rattle.std.proofs.lemmas.Option.{slice_get_past, slice_get_read}
 use Rattle.std.specs.Prelude.{if◌then◌else◌}
-use Rattle.thread_code.specs.Lined.{event_of}
+use Rattle.script_tree.specs.Lined.{event_of}
 use Rattle.protocol_values.specs.declared.Atom.TheVariants.{Nack}
 use Rattle.thread.specs.declared.Fault.TheVariants.{Range}
 use Rattle.thread.specs.Standing.{at_line, Outcome, State, Goes, Fails, with_variable}

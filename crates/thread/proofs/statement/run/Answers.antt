@@ -1,6 +1,6 @@
 use Rattle.std.proofs.Common.{◌∙◌, ◌∷◌, ◌++◌, [], Ok, refl, sym, ap, subst, arith}
 use Rattle.script_tree.specs.Trees.{test_of}
-use Rattle.thread_code.specs.Lined.{Runs, block_of, stmt_of}
+use Rattle.script_tree.specs.Lined.{Runs, block_of, stmt_of}
 use Rattle.thread.specs.declared.stack.Frame.TheVariants.{Rest, Times, Endless}
 use Rattle.thread.specs.declared.stack.Now.TheVariants.{At}
 use Rattle.thread.specs.Standing.{Goes, at_line}

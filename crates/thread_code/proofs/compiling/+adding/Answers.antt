@@ -4,7 +4,7 @@ use Rattle.std.proofs.lemmas.Nat.{one_shl}
 use Rattle.std.specs.declared.sync.Arc.{Arc}
 use Rattle.script_tree.specs.declared.tree.Block.{Block as SeenBlock, size-Block, the_lemmas}
 use Rattle.script_tree.specs.declared.tree.Event.{Event as SeenEvent}
-use Rattle.thread_code.specs.Lined.{block_of, event_of, nack_count}
+use Rattle.script_tree.specs.Lined.{block_of, event_of, nack_count}
 use Rattle.thread_code.specs.declared.Stage.TheVariants as seen
 use Rattle.thread_code.specs.Codes.{AreStages, IsAt}
 use Rattle.thread_code.specs.Stages.{Made, Offered, Performed, stages}

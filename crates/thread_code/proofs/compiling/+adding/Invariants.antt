@@ -2,7 +2,7 @@ use Rattle.std.proofs.Common.{◌≡◌, ◌+◌, ◌*◌, ◌<◌, ◌≤◌, �
 use Rattle.script_tree.specs.declared.tree.Block.{Block as SeenBlock, size-Block}
 use Rattle.script_tree.specs.declared.tree.Event.{size-Event}
 use Rattle.script_tree.specs.declared.tree.Events.{size-Events}
-use Rattle.thread_code.specs.Lined.{block_of, event_of, events_of, nack_count, nacks_of_all}
+use Rattle.script_tree.specs.Lined.{block_of, event_of, events_of, nack_count, nacks_of_all}
 use Rattle.thread_code.specs.Codes.{AreStages, Grows, IsAt, IsLinked}
 use Rattle.thread_code.specs.Fitting.{MembersFit}
 use Rattle.thread_code.specs.Stages.{Stage, stages, stages_of_all}

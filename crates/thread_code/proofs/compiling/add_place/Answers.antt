@@ -1,5 +1,5 @@
 use Rattle.std.proofs.Common.{arith, refl, subst}
-use Rattle.thread_code.specs.Lined.{block_of}
+use Rattle.script_tree.specs.Lined.{block_of}
 use Rattle.thread_code.specs.Codes.{IsAt}
 use Rattle.thread_code.proofs.Growing.{grows_by_place, linked_by_place, place_there}
 use Rattle.thread_code.proofs.compiling.add_place.Goals as goal

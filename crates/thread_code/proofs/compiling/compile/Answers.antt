@@ -1,6 +1,6 @@
 use Rattle.std.proofs.Common.{ap, slice_get, ◌∙◌}
 use Rattle.std.specs.Option.{option_map}
-use Rattle.thread_code.specs.Lined.{block_of}
+use Rattle.script_tree.specs.Lined.{block_of}
 use Rattle.thread_code.specs.declared.Place.{Place}
 use Rattle.thread_code.proofs.Growing.{linked_alike}
 use Rattle.thread_code.proofs.compiling.compile.Goals as goal

@@ -7,7 +7,7 @@ use Rattle.script_tree.specs.declared.tree.Event.{Event as SeenEvent, Send, Recv
 use Rattle.script_tree.specs.declared.tree.Events.{Events as SeenEvents, Nothing as NoEvents, More' as MoreEvents'}
 use Rattle.script_tree.specs.declared.tree.Stmt.{Stmt as SeenStmt, Let, Print, Sync', If', Loop', Forever', End, Spawn}
 use Rattle.script_tree.specs.declared.tree.Block.{Block as SeenBlock, Done, Then'}
-use Rattle.thread_code.specs.Lined.{block_of, event_of, events_of, stmt_of, plain_block, plain_event, plain_members, plain_stmt}
+use Rattle.script_tree.specs.Lined.{block_of, event_of, events_of, stmt_of, plain_block, plain_event, plain_members, plain_stmt}
 
 mutual
   pub event_plain : (e : SeenEvent) → plain_event (event_of e) ≡ plain.event_of e
