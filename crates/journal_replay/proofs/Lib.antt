@@ -14,6 +14,7 @@ mod Remembering
 mod Replaying
 pub mod Ending
 mod Lines
+pub mod Variables
 mod Listing
 mod Removing
 mod Covering

@@ -4,6 +4,7 @@ pub mod Standing
 pub mod Reaching
 pub mod Replays
 pub mod Lines
+pub mod Variables
 pub mod Searching
 pub mod Ends
 pub mod Gathering

@@ -1,5 +1,5 @@
 -- At which line of its text each process of a run stands.
-use Rattle.std.specs.Prelude.{◌≡◌, ◌⊎◌, ℕ, if◌then◌else◌, List, length, map, Option, Some, None, slice_get}
+use Rattle.std.specs.Prelude.{◌≡◌, ◌⊎◌, ℕ, if◌then◌else◌, List, length, map, Some, slice_get}
 use Rattle.script_tree.specs.Processes.{Proc}
 use Rattle.script_tree.specs.Trees as plain
 use Rattle.script_tree.specs.declared.tree.Block.{Block as Tree}

@@ -1,12 +1,12 @@
 -- Nothing gives results back, and a turn of a loop takes one.
-use Rattle.std.proofs.Common.{◌≡◌, ℕ, zero, suc, ◌<◌, ◌≤◌, List, [], ◌∷◌, Option, Some, None, length, slice_get, refl, ap, ◌∙◌, subst, arith, nat_le}
+use Rattle.std.proofs.Common.{◌≡◌, ℕ, zero, suc, ◌<◌, ◌≤◌, List, [], ◌∷◌, Option, Some, None, length, slice_get, refl, ap, subst, arith, nat_le}
 use Rattle.std.specs.Prelude.{⊤}
 use Rattle.event.specs.Tree.{wraps_at}
 use Rattle.script_tree.specs.Trees.{Event, Sends, Receives, IsReady, IsNever, IsCancelled, IsJoined, Chooses, Wraps, Guards, Nacks, Events, NoMembers, Members, Stmt, Lets, Prints, Syncs, Branches, Loops, LoopsForever, Ends, Spawns, Block, Stops, Runs, LoopBody}
 use Rattle.protocol_values.specs.declared.Message.{Message}
 use Rattle.thread.specs.Values.{expr_value, list_value, test_value, with_names}
-use Rattle.thread.specs.After.{State, Chosen, Outcome, ◌>>=◌, given, received, Wrapping, wrapped_once, wrapped, Formed, committed, synced_with, synced, times, endless, formed, with_nack, as_wrap, as_scope, as_first, run_block, run_stmt, resolve, resolve_all}
-use Rattle.thread.proofs.Binding.{IfGoes, bind_goes, bind_same, bind_assoc, given_goes, goes_weaker, if_goes}
+use Rattle.thread.specs.After.{State, Chosen, Outcome, ◌>>=◌, given, received, Wrapping, wrapped_once, wrapped, Formed, committed, synced_with, synced, times, formed, with_nack, as_wrap, as_scope, as_first, run_block, run_stmt, resolve, resolve_all}
+use Rattle.thread.proofs.Binding.{IfGoes, bind_goes, given_goes, goes_weaker, if_goes}
 
 abbrev pub NoMore : State → State → Type 0
 NoMore s t = length t.left ≤ length s.left

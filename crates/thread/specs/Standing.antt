@@ -221,3 +221,25 @@ line_at m phase = line_after m.body m.variables m.thread m.results
 
 abbrev pub line_of : Thread → ℕ
 line_of m = line_at m m.phase
+
+-- ITS VARIABLES
+
+-- the variables where it stops; none where it strays
+abbrev pub variables_in : Outcome State → Store
+variables_in (Offers tree at) = at.store
+variables_in (Finishes at) = at.store
+variables_in (Fails fault at) = at.store
+variables_in outcome = []
+
+-- those of a process with this tree and so many variables, run as this thread, after these results
+abbrev pub variables_after : SeenBlock → ℕ → ℕ → List Chosen → Store
+variables_after tree variables thread results = variables_in (after (block_of tree) variables thread results)
+
+-- those of the machine's process after its results; none before it has begun, and where memory ran out
+abbrev pub variables_at : Thread → Phase → Store
+variables_at m Ready = []
+variables_at m Broken = []
+variables_at m phase = variables_after m.body m.variables m.thread m.results
+
+abbrev pub variables_of : Thread → Store
+variables_of m = variables_at m m.phase

@@ -1,4 +1,6 @@
 pub mod Valuing
+pub mod Lining
 pub mod Forgetting
+pub mod Variables
 pub mod Passing
 pub mod Seeing

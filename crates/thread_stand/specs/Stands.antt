@@ -1,11 +1,12 @@
 -- What a caller is told of how a process stands.
-use Rattle.std.specs.Prelude.{◌≡◌, ◌<◌, ℕ, List, [], length, ⊤}
+use Rattle.std.specs.Prelude.{◌≡◌, ◌<◌, ℕ, List, [], length, Option, Some, None, ⊤}
 use Rattle.script_tree.specs.Processes.{Proc}
 use Rattle.thread.specs.After.{Chosen, State}
 use Rattle.thread_stand.specs.Standing as standing
 use Rattle.thread_stand.specs.Standing.{Standing, standing}
 use Rattle.thread_stand.specs.declared.stand.Stand.{Stand}
 use Rattle.thread_stand.specs.declared.stand.Stand.TheVariants.{Offers, Finishes, Fails, Strays}
+use Rattle.thread_stand.specs.declared.trouble.Trouble.{Trouble}
 
 abbrev pub standing_of : Proc → ℕ → List Chosen → Standing State
 standing_of p thread results = standing p.body (length p.variables) thread results
@@ -19,3 +20,10 @@ IsTold (standing.Fails trouble s) (Fails variables told) = (variables.items ≡ 
 IsTold (standing.Fails trouble s) Strays = 0 < length s.left
 IsTold standing.Strays Strays = ⊤
 IsTold one other = ⊥
+
+-- It is told what was wrong, where the process failed and took all results; else there is nothing to tell.
+abbrev pub TellsTrouble : Standing State → Option Trouble → Type 0
+TellsTrouble (standing.Fails trouble s) (Some told) = (told ≡ trouble) × (s.left ≡ [])
+TellsTrouble (standing.Fails trouble s) None = 0 < length s.left
+TellsTrouble one (Some told) = ⊥
+TellsTrouble one None = ⊤

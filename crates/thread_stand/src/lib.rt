@@ -9,5 +9,5 @@ mod walk;
 mod walking;
 
 pub use crate::laws::stand_laws;
-pub use crate::stand::{Stand, stand_of};
+pub use crate::stand::{Stand, stand_of, trouble_of};
 pub use crate::trouble::{Kind, Trouble};

@@ -2,7 +2,7 @@
 
 ghost use Rattle.std.specs.Prelude.{◌≡◌, None, IfOk, replicate};
 ghost use Rattle.script_tree.specs.Processes.{proc_of};
-ghost use Rattle.thread_stand.specs.Stands.{IsTold, standing_of};
+ghost use Rattle.thread_stand.specs.Stands.{IsTold, TellsTrouble, standing_of};
 ghost use Rattle.thread_stand.specs.Ends.{IsTold as IsToldOf};
 ghost use Rattle.thread_stand.specs.Walks.{came};
 
@@ -63,4 +63,20 @@ pub fn stand_of(
     };
     let end = walk.run(process.body());
     Ok(told(end, walk))
+}
+
+/// What went wrong in a process that fails after these results of its syncs; none where it does not fail, or leaves
+/// some of them over.
+pub fn trouble_of(
+    alloc: Global,
+    process: &Proc,
+    thread: u8,
+    results: &[(u8, Message)],
+) -> Result<Option<Trouble>, AllocError>
+    ensures { IfOk result (TellsTrouble (standing_of (proc_of process.now) thread results.now)) }
+{
+    match stand_of(alloc, process, thread, results)? {
+        Stand::Fails(_, trouble) => Ok(Some(trouble)),
+        Stand::Offers(_) | Stand::Finishes | Stand::Strays => Ok(None),
+    }
 }
