@@ -28,7 +28,7 @@ pub same-base : (strands : List Strand) (rows : ℕ) (at : Row × ℕ) (a b : Ba
 same-base strands rows at a b f g =
     sym f.base ∙ ap (λ (o : Offer). o.base) (same_Some f.offer g.offer (sym f.is ∙ g.is)) ∙ g.base
 
-same-base-for : (m n : Cause) → base_for m ≡ base_for n → m ≡ n
+pub same-base-for : (m n : Cause) → base_for m ≡ base_for n → m ≡ n
 same-base-for (cause.Always m) (cause.Always n) e = cc
 same-base-for (cause.Always m) (cause.Nack n) e = absurd cc
 same-base-for (cause.Always m) (cause.End t) e = absurd cc

@@ -26,3 +26,4 @@ pub mod Telling
 pub mod Fronts
 pub mod Nacks
 pub mod Stamping
+mod Nexting

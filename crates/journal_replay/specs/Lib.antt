@@ -9,3 +9,4 @@ pub mod Searching
 pub mod Ends
 pub mod Gathering
 pub mod Stamping
+pub mod Nexting

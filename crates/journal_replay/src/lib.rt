@@ -4,11 +4,13 @@
 //! - `replay` is Ok exactly where the commits are a run of the processes, want of memory aside, and else
 //!   names the first commit with which they are none.
 //! - A process that some text spawns takes part from where its spawner, once started, first spawned it.
+//! - `State::next_commits` lists the commits that may come next, each of them and no other.
 //! - `gather` stands where a run leads, by machines that have gone part of it, and `retrace` by none.
 #![tactic(auto)]
 
 mod end;
 mod gathering;
+mod nexts;
 mod openings;
 mod placed;
 mod runs;

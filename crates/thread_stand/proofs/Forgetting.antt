@@ -1,8 +1,8 @@
 -- How a process stands, with what is kept of it left out, is what it does.
 use Rattle.std.proofs.Common.{◌≡◌, ℕ, List, length, refl, ap, ap₂, sym, ◌∙◌, subst}
 use Rattle.script_tree.specs.Trees.{Event, Sends, Receives, IsReady, IsNever, IsCancelled, IsJoined, Chooses, Wraps, Guards, Nacks, Events, NoMembers, Members, Stmt, Lets, Prints, Syncs, Branches, Loops, LoopsForever, Ends, Spawns, Block, Stops, Runs}
-use Rattle.thread_code.specs.Lined as written
-use Rattle.thread_code.specs.Lined.{plain_block, plain_event, plain_members, plain_stmt}
+use Rattle.script_tree.specs.Lined as written
+use Rattle.script_tree.specs.Lined.{plain_block, plain_event, plain_members, plain_stmt}
 use Rattle.thread.specs.After as after
 use Rattle.thread.specs.After.{Chosen, State}
 use Rattle.thread.specs.Standing as lined

@@ -4,8 +4,8 @@ use Rattle.std.specs.Global.{Vec}
 use Rattle.std.specs.Prelude.{Option}
 use Rattle.event.specs.Tree.{Tree as Event}
 use Rattle.protocol_values.specs.declared.Atom.{Atom}
-use Rattle.thread_code.specs.Lined as written
-use Rattle.thread_code.proofs.Lines.{block_plain}
+use Rattle.script_tree.specs.Lined as written
+use Rattle.script_tree.proofs.Lines.{block_plain}
 use Rattle.thread.specs.After as after
 use Rattle.thread.specs.After.{Said, State}
 use Rattle.thread.specs.Standing as lined
