@@ -20,7 +20,7 @@ use Rattle.journal_replay.specs.Runs.{Config, EndsAs, Starts, config_of, end_of}
 use Rattle.journal_replay.specs.Standing.{MachineStands, StrandStands}
 use Rattle.journal_replay.specs.Variables.{StandsWith, variables_at}
 use Rattle.journal_replay.specs.declared.end.End.{End}
-use Rattle.journal_replay.specs.declared.end.End.TheVariants.{Ended, Faulted, Waiting}
+use Rattle.journal_replay.specs.declared.end.End.TheVariants.{Ended, Faulted, Unstarted, Waiting}
 use Rattle.journal_replay.specs.declared.state.State.{State}
 use Rattle.journal_replay.specs.declared.strand.Strand.{Strand}
 
@@ -65,9 +65,32 @@ pub thread_variables : (ps : List Proc) (rows t : ℕ) (journal : List Commit) (
 thread_variables ps rows t journal state s stands is =
     strand_variables ps state.threads.strands.items t (config_of journal) journal s (stands.strands.stands.each t s is) (stands.strands.marked t s is) is s.started refl
 
--- WHERE A PROCESS WAITS
+-- PROCESSES THAT HAVE STARTED
 
--- the process offers an event, and its machine, which runs this tree, has these variables
+-- the machine of the process, which runs this tree, has these variables
+pub record RunsWith (p : Proc) (t : ℕ) (results : List Chosen) (variables : Store) : Type 0 where
+  pub tree : Tree
+  pub same : plain.block_of tree ≡ p.body
+  pub are : variables ≡ variables_after tree (length p.variables) t results
+
+pub runs_with : (ps : List Proc) (t : ℕ) (config : Config) (trees : List Tree) (variables : Store) (p : Proc) → slice_get ps t ≡ Some p → Starts ps config t → StandsWith ps trees t config variables → RunsWith p t (config t) variables
+runs_with ps t config trees variables p is started stands =
+    let its : stands.process ≡ p = same_Some stands.process p (sym stands.is_its ∙ is) in
+    elim stands.stands [
+      | inr w ↦ absurd (w.0 started)
+      | inl w ↦ record {
+        tree = stands.tree;
+        same = stands.same ∙ ap (λ (q : Proc). q.body) its;
+        are = w.1 ∙ ap (λ (q : Proc). variables_after stands.tree (length q.variables) t (config t)) its;
+      }
+    ]
+
+pub has_started : (ps : List Proc) (rows t : ℕ) (config : Config) (end : End) (printed : List Atom) → (end ≡ Unstarted → ⊥) → EndsAs ps rows t config end printed → Starts ps config t
+has_started ps rows t config end printed other ends = elim ends.ends [ inl w ↦ w.0 | inr w ↦ absurd (other w.1) ]
+
+-- PROCESSES THAT WAIT
+
+-- the process offers an event
 pub record WaitsWith (p : Proc) (t : ℕ) (results : List Chosen) (variables : Store) : Type 0 where
   pub tree : Tree
   pub same : plain.block_of tree ≡ p.body
@@ -91,20 +114,10 @@ waits_at rows count Strays printed is = absurd (cc (is))
 pub waits_with : (ps : List Proc) (rows t : ℕ) (config : Config) (trees : List Tree) (printed : List Atom) (variables : Store) (p : Proc) → slice_get ps t ≡ Some p → EndsAs ps rows t config Waiting printed → StandsWith ps trees t config variables → WaitsWith p t (config t) variables
 waits_with ps rows t config trees printed variables p is ends stands = elim ends.ends [
   | inr w ↦ absurd (cc (w.1))
-  | inl w ↦ elim stands.stands [
-    | inr u ↦ absurd (u.0 w.0)
-    | inl u ↦
-        let first : ends.process ≡ p = same_Some ends.process p (sym ends.is_its ∙ is) in
-        let second : stands.process ≡ p = same_Some stands.process p (sym stands.is_its ∙ is) in
-        let x = after p.body (length p.variables) t (config t) in
-        let at = waits_at rows (length (config t)) x printed (subst (λ (q : Proc). end_of rows (length (config t)) (after q.body (length q.variables) t (config t)) ≡ Some (Waiting, printed)) first w.1) in
-        record {
-          tree = stands.tree;
-          same = stands.same ∙ ap (λ (q : Proc). q.body) second;
-          event = at.0;
-          said = at.1;
-          offers = at.2;
-          are = u.1 ∙ ap (λ (q : Proc). variables_after stands.tree (length q.variables) t (config t)) second;
-        }
-  ]
+  | inl w ↦
+      let its : ends.process ≡ p = same_Some ends.process p (sym ends.is_its ∙ is) in
+      let x = after p.body (length p.variables) t (config t) in
+      let at = waits_at rows (length (config t)) x printed (subst (λ (q : Proc). end_of rows (length (config t)) (after q.body (length q.variables) t (config t)) ≡ Some (Waiting, printed)) its w.1) in
+      let runs = runs_with ps t config trees variables p is w.0 stands in
+      record { tree = runs.tree; same = runs.same; event = at.0; said = at.1; offers = at.2; are = runs.are }
 ]

@@ -12,8 +12,8 @@ use Rattle.journal_replay.specs.Runs.{Config, Starts, config_of}
 use Rattle.journal_replay.specs.declared.state.State.{State}
 use Rattle.journal_replay.specs.declared.strand.Strand.{Strand}
 
--- the variables of the process with this tree where it stands after the results that it has: where it offers an event, came to
--- its end, or failed; none where it has not started
+-- The variables of the process with this tree after the results that it has, where it offers an event, ends or fails. There are
+-- none where it has not started.
 pub record StandsWith (ps : List Proc) (trees : List Tree) (t : ℕ) (config : Config) (variables : Store) : Type 0 where
   pub process : Proc
   pub is_its : slice_get ps t ≡ Some process

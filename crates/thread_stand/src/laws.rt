@@ -7,8 +7,8 @@ ghost use Rattle.thread_stand.specs.Variables.{FaultsAreTold, MachinesHaveThem, 
 /// ends or fails in the same way, and it printed and spawned the same. What a trouble says is so, by the variables that
 /// stand with it. And what `stand_of` tells is what the process does.
 ///
-/// The variables with which a process stands are those of its machine. So of a process that offers an event they are
-/// what `stand_of` tells, and of one that failed they are the variables that it tells.
+/// The variables with which a process stands are those of its machine. So they are what `stand_of` tells of a process
+/// that offers an event, and the variables that it tells of one that failed.
 pub fn stand_laws()
     ensures forgetting { ForgettingGivesAfter }
     ensures troubles { TroublesAreSo }
