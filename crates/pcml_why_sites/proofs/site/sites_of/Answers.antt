@@ -17,18 +17,16 @@ loop-thread-preserved c =
     let own = c.index.result.now in
     let within : t < length results = subst (λ (n : ℕ). t < n) (c.threads-thread-end.ensures ∙ sym c.threads.ensures ∙ sym (c.in_ok-results.ensures.0)) c.loop-thread-test.true in
     let told : c.deref.result.now ≡ config_of commits t = c.deref.ensures.value ∙ c.in_ok-results.ensures.1 t own (slice_get_read results (length results) t own refl within c.index.ensures) in
-    holds-more (TellsSite (map proc_of c.args.processes.now) c.args.commits.now c.args.state.now c.args.standing.now c.args.lines.now) c.loop-thread.thread c.loop-thread.sites.items c.push.new.self.items
-    (record { end = c.end-end.result; line = c.line_of.result; stand = c.in_ok-stand.stand; offers = c.open.result.0; nacks = c.open.result.1 })
+    holds-more (TellsSite (map proc_of c.args.processes.now) c.args.commits.now c.args.state.now) c.loop-thread.thread c.loop-thread.sites.items c.push.new.self.items
+    (record { end = c.end-end.result; line = c.line.result; stand = c.in_ok-stand.stand; offers = c.open.result.0; nacks = c.open.result.1 })
     c.loop-thread.invariant
     (record {
       end = c.end-end.ensures;
+      line = c.line.ensures;
       offers = c.open.ensures.told;
       stand = λ p is.
           subst (λ (q : Proc). TellsStand c.end-end.result (standing_of q c.loop-thread.thread (config_of c.args.commits.now c.loop-thread.thread)) c.in_ok-stand.stand)
           (ap proc_of c.index-processes-thread.is ∙ process-at proc_of c.args.processes.now c.loop-thread.thread c.index-processes-thread.result p (subst (λ (n : ℕ). c.loop-thread.thread < n) c.requires.processes (subst (λ (n : ℕ). c.loop-thread.thread < n) c.threads-thread-end.ensures c.loop-thread-test.true)) is)
           (subst (λ (given : List Chosen). TellsStand c.end-end.result (standing_of (proc_of c.index-processes-thread.result) t given) c.in_ok-stand.stand) told c.in_ok-stand.ensures);
-      printed = c.output.result.now;
-      tells_printed = c.output.ensures;
-      line = c.line_of.ensures;
     })
     c.in_ok-push.ensures.items
