@@ -23,7 +23,7 @@ use Rattle.pcml_why_sites.specs.Knots.{IsKnot, waits_for}
 use Rattle.pcml_why_sites.specs.Sites.{AreSites}
 use Rattle.pcml_why_sites.specs.Writing.{Written, texts_below}
 use Rattle.pcml_why_sites.specs.Offering.{is_open, is_waiting, others}
-use Rattle.pcml_why.specs.Variables.{known_text, wrong_text}
+use Rattle.pcml_why.specs.Variables.{variables_text, wrong_text}
 use Rattle.pcml_why_sites.specs.declared.site.Site.{Site}
 use Rattle.protocol_values.specs.declared.Side.{Side}
 use Rattle.protocol_values.specs.declared.Side.TheVariants.{Sends, Receives}
@@ -162,7 +162,7 @@ offers_text names facts sites t s = if is_waiting s.end then flat_map (offer_lin
 
 -- the variables of a process that waits
 abbrev pub known_at : Naming → List (List ℕ) → Site → List ℕ
-known_at names variables s = if is_waiting s.end then known_text names variables s.stand else []
+known_at names variables s = if is_waiting s.end then variables_text names variables s.variables.now else []
 
 -- by the names of its variables
 abbrev pub process_text : Naming → List (List ℕ) → Facts → ℕ → List Site → ℕ → Site → List ℕ

@@ -4,7 +4,7 @@ ghost use Rattle.std.specs.Prelude.{◌≡◌, ◌<◌, ◌≤◌, IfOk, OnOk, l
 ghost use Rattle.std.specs.String.{string_bytes};
 ghost use Rattle.script.specs.Scripts.{script_of};
 ghost use Rattle.script_tree.specs.Processes.{proc_of};
-ghost use Rattle.journal_replay.specs.Replays.{thread_count};
+ghost use Rattle.journal_replay.specs.Replays.{StandsAfter, thread_count};
 ghost use Rattle.pcml_why.specs.Served.{AreAnswers};
 ghost use Rattle.pcml_why_sites.specs.Writing.{seen_texts};
 ghost use Rattle.pcml_why_sites.specs.Offering.{others};
@@ -234,7 +234,7 @@ fn push_known(out: &mut String, namer: &Namer<'_>, site: &Site<'_>) -> Result<()
     if !is_waiting(site.end) {
         return Ok(());
     }
-    namer.push_known(out, &site.stand)
+    namer.push_variables(out, site.variables)
 }
 
 impl Teller<'_> {
@@ -506,6 +506,7 @@ pub fn why_text(
 ) -> Result<String, AllocError>
     requires few { thread_count state.now ≤ 64 }
     requires processes { thread_count state.now ≡ length (script_of script.now).processes }
+    requires stands { StandsAfter (script_of script.now).processes rows commits.now state.now }
     ensures { IfOk result (λ text. IsWhy (script_of script.now) state.now commits.now source.now rows (string_bytes text)) }
 {
     let tokens = scan(alloc, source)?;

@@ -1,17 +1,17 @@
 //! Where a process stands.
 
-ghost use Rattle.std.specs.Prelude.{◌≡◌, ◌==◌, ◌&&◌, ◌≤◌, IfOk, length, map};
+ghost use Rattle.std.specs.Prelude.{◌≡◌, ◌==◌, ◌&&◌, ◌≤◌, ℕ, IfOk, length, map};
 ghost use Rattle.script_tree.specs.Processes.{proc_of};
 ghost use Rattle.std.specs.List.{list_any};
-ghost use Rattle.journal_replay.specs.Replays.{thread_count};
+ghost use Rattle.journal_replay.specs.Replays.{StandsAfter, thread_count};
 ghost use Rattle.script.specs.Scripts.{script_of};
 ghost use Rattle.pcml_why_sites.specs.Offering.{is_open, is_waiting, offers_on, others};
 ghost use Rattle.protocol_values.specs.Values.{is_on};
 ghost use Rattle.pcml_why_sites.specs.Sites.{AreSites};
 
-use crate::results::{results_of, stand_after};
+use crate::results::stand_after;
 use journal_replay::{End, State};
-use protocol_values::{Commit, NackName, Offer, Side};
+use protocol_values::{Atom, Commit, NackName, Offer, Side};
 use script::Script;
 use script_tree::Proc;
 use std::alloc::{AllocError, Global};
@@ -24,6 +24,9 @@ pub struct Site<'a> {
     pub end: End,
     /// Of its open sync, or of the statement at which it faulted; 0 where it has ended or not started.
     pub line: usize,
+    /// With which it stands, by their numbers: one that was not set has no value.
+    pub variables: &'a [Option<Atom>],
+    /// Of one that faulted, with what went wrong.
     pub stand: Stand,
     pub offers: &'a [Offer],
     pub nacks: &'a [u8],
@@ -105,23 +108,18 @@ fn sites_of<'a>(
 ) -> Result<Vec<Site<'a>>, AllocError>
     requires few { thread_count state.now ≤ 64 }
     requires processes { thread_count state.now ≡ length processes.now }
+    requires stands { (rows : ℕ) × StandsAfter (map proc_of processes.now) rows commits.now state.now }
     ensures { IfOk result (λ sites. AreSites (map proc_of processes.now) commits.now state.now sites.items) }
 {
-    let results = results_of(alloc, commits, state.threads())?;
     let mut sites = Vec::new(alloc);
     for thread in 0..state.threads() {
         let (offers, nacks) = state.open(thread);
         let end = state.end(thread);
-        let stand = stand_after(
-            alloc,
-            &processes[thread],
-            thread as u8,
-            &results[thread],
-            end,
-        )?;
+        let stand = stand_after(alloc, &processes[thread], thread as u8, commits, end)?;
         sites.push(Site {
             end,
             line: state.line(thread) as usize,
+            variables: state.variables(thread),
             stand,
             offers,
             nacks,
@@ -139,6 +137,7 @@ pub fn sites_at<'a>(
 ) -> Result<Vec<Site<'a>>, AllocError>
     requires few { thread_count state.now ≤ 64 }
     requires processes { thread_count state.now ≡ length (script_of script.now).processes }
+    requires stands { (rows : ℕ) × StandsAfter (script_of script.now).processes rows commits.now state.now }
     ensures { IfOk result (λ sites. AreSites (script_of script.now).processes commits.now state.now sites.items) }
 {
     sites_of(alloc, script.processes(), commits, state)

@@ -51,3 +51,6 @@ pub push_last-requires : goal.push_last-requires
 push_last-requires c =
     ap length c.deref.ensures.value ∙ sym (length-map c.in_ok-texts.texts.items (λ (v : Vec WrittenOffer). seen_offers v.items)) ∙ ap length c.in_ok-texts.ensures
     ∙ length-texts (seen c.deref-placed.result.now) (length c.deref-sites.result.now)
+
+pub sites_at-requires-clause-stands : goal.sites_at-requires-clause-stands
+sites_at-requires-clause-stands c = (c.args.rows, c.requires.stands)
