@@ -1,11 +1,7 @@
 -- What is told of where the processes stand after a journal, or of why it is no run.
-use Rattle.std.specs.Prelude.{◌≡◌, ℕ, ◌+◌, List, ◌++◌, map, ⊤}
+use Rattle.std.specs.Prelude.{◌≡◌, ℕ, ◌+◌, List, ◌++◌, ⊤}
 use Rattle.protocol_values.specs.declared.Commit.{Commit}
-use Rattle.script.specs.Scripts.{script_of}
 use Rattle.script.specs.Sources.{Script}
-use Rattle.script.specs.declared.script.Script.{Script as SeenScript}
-use Rattle.script_tree.specs.Processes.{proc_of, tree_of}
-use Rattle.script_tree.specs.declared.process.Proc.{Proc as SeenProc}
 use Rattle.script_tree.specs.declared.tree.Block.{Block as Tree}
 use Rattle.journal_text.specs.Journals.{Spells}
 use Rattle.journal_text.specs.Names.{named}
@@ -22,12 +18,6 @@ use Rattle.pcml_texts.specs.declared.reach.Reached.{Reached}
 use Rattle.pcml_texts.specs.declared.reach.Reached.TheVariants.{Run, NoRun}
 use Rattle.pcml_texts.specs.declared.replay.Replayed.{Replayed}
 use Rattle.pcml_texts.specs.declared.replay.Replayed.TheVariants.{Lawful, Unlawful}
-
--- the trees of the script's processes, in their order, with the lines that they have
-pub record HasTrees (script : SeenScript) (trees : List Tree) : Type 0 where
-  pub processes : List SeenProc
-  pub are : map proc_of processes ≡ (script_of script).processes
-  pub trees_are : trees ≡ map tree_of processes
 
 -- the state of a journal that is a run runs these trees
 abbrev pub RunsTrees : List Tree → Reached → Type 0

@@ -1,12 +1,12 @@
 //! A journal read and replayed, for each request that asks where one leads.
 
-ghost use Rattle.std.specs.Prelude.{◌≡◌, ◌≤◌, IfOk, IfErr, List};
+ghost use Rattle.std.specs.Prelude.{◌≡◌, ◌≤◌, IfOk, IfErr};
 ghost use Rattle.std.specs.String.{string_bytes};
+ghost use Rattle.script.specs.Lines.{trees_of_script};
 ghost use Rattle.script.specs.Scripts.{script_of};
 ghost use Rattle.journal_text.specs.Answers.{Explains};
-ghost use Rattle.script_tree.specs.declared.tree.Block.{Block as Tree};
 ghost use Rattle.pcml_texts.specs.Replay.{Reaches, unlawful_line};
-ghost use Rattle.pcml_texts.specs.Why.{HasTrees, RunsTrees};
+ghost use Rattle.pcml_texts.specs.Why.{RunsTrees};
 
 use journal_replay::{ReplayFault, State, replay};
 use journal_text::{JournalFault, read_journal};
@@ -43,7 +43,7 @@ pub(crate) fn reach(
 ) -> Result<Reached, JournalFault>
     requires { rows ≤ 67107840 }
     ensures reached { IfOk result (Reaches (script_of script.now) rows journal.now) }
-    ensures trees { IfOk result (λ reached. (trees : List Tree) × HasTrees script.now trees × RunsTrees trees reached) }
+    ensures trees { IfOk result (RunsTrees (trees_of_script script.now)) }
     ensures fault { IfErr result (Explains (script_of script.now) journal.now) }
 {
     let commits = read_journal(alloc, script, journal)?;

@@ -1,10 +1,10 @@
 //! What `why` prints.
 
-ghost use Rattle.std.specs.Prelude.{◌≡◌, ◌+◌, ◌≤◌, IfOk, IfErr, List};
+ghost use Rattle.std.specs.Prelude.{◌≡◌, ◌+◌, ◌≤◌, IfOk, IfErr};
 ghost use Rattle.std.specs.List.{AllByRecursion};
 ghost use Rattle.std.specs.String.{string_bytes};
+ghost use Rattle.script.specs.Lines.{trees_of_script};
 ghost use Rattle.script.specs.Scripts.{script_of};
-ghost use Rattle.script_tree.specs.declared.tree.Block.{Block as Tree};
 ghost use Rattle.journal_replay.specs.Lines.{trees_in};
 ghost use Rattle.journal_replay.specs.Replays.{StandsAfter};
 ghost use Rattle.journal_replay.specs.Runs.{BreaksOffAt, IsRun};
@@ -12,7 +12,7 @@ ghost use Rattle.journal_text.specs.Answers.{Explains};
 ghost use Rattle.journal_text.specs.Journals.{HasLine};
 ghost use Rattle.journal_text.specs.Names.{names_of};
 ghost use Rattle.pcml_texts.specs.Replay.{unlawful_line};
-ghost use Rattle.pcml_texts.specs.Why.{HasTrees, IsWhyOf, TellsReason, TellsWhy};
+ghost use Rattle.pcml_texts.specs.Why.{IsWhyOf, TellsReason, TellsWhy};
 
 use crate::reach::{Reached, reach};
 use crate::replay::Replayed;
@@ -71,8 +71,7 @@ pub fn why_run(
 ) -> Result<Vec<u8>, AllocError>
     requires rows { rows ≤ 67107840 }
     requires run { IsRun (script_of script.now).processes rows commits.now }
-    ensures { IfOk result (λ told. (trees : List Tree) × HasTrees script.now trees
-        × IsWhyOf (script_of script.now) trees text.now rows commits.now told.items) }
+    ensures { IfOk result (λ told. IsWhyOf (script_of script.now) (trees_of_script script.now) text.now rows commits.now told.items) }
 {
     match replay(alloc, script.processes(), rows, commits) {
         Ok(state) => why_standing(alloc, script, text, commits, &state, rows),
@@ -91,8 +90,7 @@ pub fn why_journal(
     rows: u32,
 ) -> Result<Replayed, JournalFault>
     requires { rows ≤ 67107840 }
-    ensures told { IfOk result (λ told. (trees : List Tree) × HasTrees script.now trees
-        × TellsWhy (script_of script.now) trees text.now rows journal.now told) }
+    ensures told { IfOk result (TellsWhy (script_of script.now) (trees_of_script script.now) text.now rows journal.now) }
     ensures fault { IfErr result (Explains (script_of script.now) journal.now) }
 {
     match reach(alloc, script, journal, rows)? {

@@ -1,5 +1,6 @@
 -- The trees of a script that was read, and what is answered of why its processes stand where a journal leads them.
 use Rattle.std.proofs.Common.{◌≡◌, ℕ, List, [], ◌∷◌, map, ap, refl, subst, sym, ◌∙◌}
+use Rattle.script.specs.Lines.{AreLined, trees_of_script}
 use Rattle.script.specs.Scripts.{script_of}
 use Rattle.script.specs.Sources.{Script}
 use Rattle.script.specs.Spelling.{Spells}
@@ -9,7 +10,7 @@ use Rattle.script_tree.specs.Trees.{Block, block_of}
 use Rattle.script_tree.specs.declared.process.Proc.{Proc as SeenProc}
 use Rattle.script_tree.specs.declared.tree.Block.{Block as Tree}
 use Rattle.pcml_files.specs.Files.{Fits}
-use Rattle.pcml_texts.specs.Why.{HasTrees, IsRefused, IsTold, TellsWhy}
+use Rattle.pcml_texts.specs.Why.{IsRefused, IsTold, TellsWhy}
 use Rattle.pcml_texts.specs.declared.replay.Replayed.{Replayed}
 use Rattle.pcml_texts.specs.declared.replay.Replayed.TheVariants.{Lawful, Unlawful}
 use Rattle.pcml_tool.specs.Command.{AnswersWhy, AreTreesOf, Files, IsJudged}
@@ -19,10 +20,8 @@ bodies_seen : (processes : List SeenProc) → map block_of (map tree_of processe
 bodies_seen [] = refl
 bodies_seen (p ∷ processes) = ap (λ (l : List Block). block_of (tree_of p) ∷ l) (bodies_seen processes)
 
-pub are_trees : (source : List ℕ) (script : SeenScript) (trees : List Tree) → HasTrees script trees → AreTreesOf source (script_of script) trees
-are_trees source script trees has = record {
-  same = ap (λ (l : List Tree). map block_of l) has.trees_are ∙ bodies_seen has.processes ∙ ap (λ (l : List Proc). map (λ (p : Proc). p.body) l) has.are;
-}
+pub are_trees : (source : List ℕ) (script : SeenScript) → AreLined source (trees_of_script script) → AreTreesOf source (script_of script) (trees_of_script script)
+are_trees source script lined = record { same = bodies_seen script.processes.items; lined = lined }
 
 -- what is told of a journal answers the request
 pub why_answered : (Holds : Files) (script journal : List ℕ) (rows : ℕ) (source read : List ℕ) (s : Script) (trees : List Tree) (replayed : Replayed) (verdict : Verdict) (text : List ℕ) → Holds script source → Spells source s → Holds journal read → Fits read →

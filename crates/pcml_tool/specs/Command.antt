@@ -46,6 +46,7 @@ use Rattle.pcml_why_script.specs.Telling.{TellsWhyNot}
 use Rattle.script.specs.Sources.{Script}
 use Rattle.script.specs.Spelling.{Spells}
 use Rattle.script.specs.FirstFaults.{Tells}
+use Rattle.script.specs.Lines.{AreLined}
 use Rattle.script_tree.specs.Trees.{block_of}
 use Rattle.script_tree.specs.declared.tree.Block.{Block as Tree}
 use Rattle.script.specs.declared.fault.ScriptFault.TheVariants as scripts
@@ -85,9 +86,10 @@ OfJournal Holds script journal Says Refuses Unlawful text = OfFiles Holds script
 OfJournal Holds script journal Says Refuses Denied text = ⊥
 OfJournal Holds script journal Says Refuses Lacking text = ⊥
 
--- the trees of the script that the source spells
+-- the trees of the script that the source spells, with the lines of its text
 pub record AreTreesOf (source : List ℕ) (s : Script) (trees : List Tree) : Type 0 where
   pub same : map block_of trees ≡ map (λ p. p.body) s.processes
+  pub lined : AreLined source trees
 
 -- where a journal leads, as text, why the processes stand there or why it is no run, its chart, what may come next, and how often each took part
 abbrev pub AnswersReplay : Files → List ℕ → List ℕ → ℕ → Verdict → List ℕ → Type 0

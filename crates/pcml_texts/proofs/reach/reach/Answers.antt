@@ -1,5 +1,5 @@
-use Rattle.std.proofs.Common.{List, map, refl, subst}
-use Rattle.script_tree.specs.Processes.{Proc, tree_of}
+use Rattle.std.proofs.Common.{List, subst, ◌∙◌}
+use Rattle.script_tree.specs.Processes.{Proc}
 use Rattle.protocol_values.specs.declared.Commit.{Commit}
 use Rattle.journal_replay.specs.Replays.{StandsAfter}
 use Rattle.pcml_texts.proofs.reach.reach.Goals as goal
@@ -11,8 +11,4 @@ returns-in-Ok-clause-reached c = record {
 }
 
 pub returns-in-Ok-clause-trees : goal.returns-in-Ok-clause-trees
-returns-in-Ok-clause-trees c = (
-  map tree_of c.processes.result.now,
-  record { processes = c.processes.result.now; are = c.processes.ensures.value; trees_are = refl },
-  c.in-Ok.ensures.trees,
-)
+returns-in-Ok-clause-trees c = c.in-Ok.ensures.trees ∙ c.processes.ensures.trees

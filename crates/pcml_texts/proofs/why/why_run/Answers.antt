@@ -1,7 +1,7 @@
-use Rattle.std.proofs.Common.{◌+◌, List, map, refl, subst}
+use Rattle.std.proofs.Common.{◌+◌, List, subst, ◌∙◌}
 use Rattle.std.proofs.lemmas.Result.{IfOk-weaker}
 use Rattle.script.specs.Scripts.{script_of}
-use Rattle.script_tree.specs.Processes.{Proc, tree_of}
+use Rattle.script_tree.specs.Processes.{Proc}
 use Rattle.script_tree.specs.declared.tree.Block.{Block as Tree}
 use Rattle.journal_replay.specs.Replays.{Refuses}
 use Rattle.journal_replay.specs.Runs.{BreaksOffAt}
@@ -14,11 +14,7 @@ pub returns-in-Ok : goal.returns-in-Ok
 returns-in-Ok c =
     let s = script_of c.args.script.now in
     IfOk-weaker c.why_standing.result _ _
-    (λ told is. (
-      map tree_of c.processes.result.now,
-      record { processes = c.processes.result.now; are = c.processes.ensures.value; trees_are = refl },
-      subst (λ (trees : List Tree). IsWhyOf s trees c.args.text.now c.args.rows c.args.commits.now told.items) c.in-Ok.ensures.trees is,
-    ))
+    (λ told is. subst (λ (trees : List Tree). IsWhyOf s trees c.args.text.now c.args.rows c.args.commits.now told.items) (c.in-Ok.ensures.trees ∙ c.processes.ensures.trees) is)
     c.why_standing.ensures
 
 pub unreachable-requires : goal.unreachable-requires

@@ -1,4 +1,5 @@
 use Rattle.std.proofs.Common.{ℕ, List, sym, subst}
+use Rattle.script.specs.Lines.{trees_of_script}
 use Rattle.script.specs.Scripts.{script_of}
 use Rattle.protocol_values.specs.declared.Commit.{Commit}
 use Rattle.journal_replay.specs.Runs.{IsRun}
@@ -11,4 +12,5 @@ why_asked-requires-clause-run g c =
 
 pub why_asked-requires-clause-trees : goal.why_asked-requires-clause-trees
 why_asked-requires-clause-trees g c =
-    λ trees has. subst (λ (source : List ℕ). AreTreesOf source (script_of c.in_ok-source_text.script) trees) (sym c.deref-2.ensures.value) (c.in_ok-source_text.ensures.trees trees has)
+    let script = c.in_ok-source_text.script in
+    subst (λ (source : List ℕ). AreTreesOf source (script_of script) (trees_of_script script)) (sym c.deref-2.ensures.value) c.in_ok-source_text.ensures.trees
