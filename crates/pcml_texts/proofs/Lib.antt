@@ -1,4 +1,3 @@
 pub mod Replaying
 pub mod Judging
-pub mod Numbering
 pub mod Columns

@@ -2,9 +2,11 @@
 
 ghost use Rattle.std.specs.Prelude.{◌≡◌, ◌≤◌, IfOk, IfErr};
 ghost use Rattle.std.specs.String.{string_bytes};
+ghost use Rattle.script.specs.Lines.{trees_of_script};
 ghost use Rattle.script.specs.Scripts.{script_of};
 ghost use Rattle.journal_text.specs.Answers.{Explains};
 ghost use Rattle.pcml_texts.specs.Replay.{Reaches, unlawful_line};
+ghost use Rattle.pcml_texts.specs.Why.{RunsTrees};
 
 use journal_replay::{ReplayFault, State, replay};
 use journal_text::{JournalFault, read_journal};
@@ -41,6 +43,7 @@ pub(crate) fn reach(
 ) -> Result<Reached, JournalFault>
     requires { rows ≤ 67107840 }
     ensures reached { IfOk result (Reaches (script_of script.now) rows journal.now) }
+    ensures trees { IfOk result (RunsTrees (trees_of_script script.now)) }
     ensures fault { IfErr result (Explains (script_of script.now) journal.now) }
 {
     let commits = read_journal(alloc, script, journal)?;

@@ -3,7 +3,9 @@
 ghost use Rattle.std.specs.Prelude.{◌≡◌, ◌+◌, ◌≤◌, IfOk, IfErr};
 ghost use Rattle.std.specs.List.{AllByRecursion};
 ghost use Rattle.std.specs.String.{string_bytes};
+ghost use Rattle.script.specs.Lines.{trees_of_script};
 ghost use Rattle.script.specs.Scripts.{script_of};
+ghost use Rattle.journal_replay.specs.Lines.{trees_in};
 ghost use Rattle.journal_replay.specs.Replays.{StandsAfter};
 ghost use Rattle.journal_replay.specs.Runs.{BreaksOffAt, IsRun};
 ghost use Rattle.journal_text.specs.Answers.{Explains};
@@ -18,7 +20,6 @@ use journal_replay::{ReplayFault, State, replay};
 use journal_text::JournalFault;
 use pcml_unlawful::{find_reason, push_reason};
 use pcml_why::why_text;
-use pcml_why_numbers::numbered;
 use protocol_values::Commit;
 use script::Script;
 use std::alloc::{AllocError, Global};
@@ -44,8 +45,7 @@ fn reason_text(
     Ok(text.into_bytes())
 }
 
-/// Why the processes stand where these commits lead them, which the state tells: the commits are replayed by processes
-/// that print the number of each statement before they begin it.
+/// Why the processes stand where these commits lead them, which the state tells.
 fn why_standing(
     alloc: Global,
     script: &Script,
@@ -54,19 +54,11 @@ fn why_standing(
     state: &State,
     rows: u32,
 ) -> Result<Vec<u8>, AllocError>
-    requires rows { rows ≤ 67107840 }
-    requires stands { StandsAfter (script_of script.now).processes rows commits.now state.now }
-    ensures { IfOk result (λ told. IsWhyOf (script_of script.now) text.now rows commits.now told.items) }
+    requires { StandsAfter (script_of script.now).processes rows commits.now state.now }
+    ensures { IfOk result (λ told. IsWhyOf (script_of script.now) (trees_in state.now) text.now rows commits.now told.items) }
 {
-    let processes = numbered(alloc, script.processes())?;
-    match replay(alloc, processes.as_slice(), rows, commits) {
-        Ok(standing) => {
-            let told = why_text(alloc, script, state, &standing, commits, text, rows)?;
-            Ok(told.into_bytes())
-        }
-        Err(ReplayFault::Memory) => Err(AllocError),
-        Err(ReplayFault::Unlawful(_)) => unreachable!(),
-    }
+    let told = why_text(alloc, script, state, commits, text, rows)?;
+    Ok(told.into_bytes())
 }
 
 /// Why the processes of the script, of so many rows each, 1 to 67107840, stand where these commits lead, a run of them.
@@ -79,7 +71,7 @@ pub fn why_run(
 ) -> Result<Vec<u8>, AllocError>
     requires rows { rows ≤ 67107840 }
     requires run { IsRun (script_of script.now).processes rows commits.now }
-    ensures { IfOk result (λ told. IsWhyOf (script_of script.now) text.now rows commits.now told.items) }
+    ensures { IfOk result (λ told. IsWhyOf (script_of script.now) (trees_of_script script.now) text.now rows commits.now told.items) }
 {
     match replay(alloc, script.processes(), rows, commits) {
         Ok(state) => why_standing(alloc, script, text, commits, &state, rows),
@@ -90,9 +82,6 @@ pub fn why_run(
 
 /// Where the processes of the script, of so many rows each, 1 to 67107840, stand after the journal in the
 /// bytes, at which lines of the script's text, and with whom each could go on; or with which line it is no run, and why.
-///
-/// A journal that is a run is replayed twice: by the processes, and by processes that print the number of each
-/// statement before they begin it.
 pub fn why_journal(
     alloc: Global,
     script: &Script,
@@ -101,7 +90,7 @@ pub fn why_journal(
     rows: u32,
 ) -> Result<Replayed, JournalFault>
     requires { rows ≤ 67107840 }
-    ensures told { IfOk result (TellsWhy (script_of script.now) text.now rows journal.now) }
+    ensures told { IfOk result (TellsWhy (script_of script.now) (trees_of_script script.now) text.now rows journal.now) }
     ensures fault { IfErr result (Explains (script_of script.now) journal.now) }
 {
     match reach(alloc, script, journal, rows)? {

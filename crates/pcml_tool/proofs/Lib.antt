@@ -5,3 +5,4 @@ pub mod Playing
 pub mod Running
 pub mod Crossing
 pub mod Wholes
+pub mod Whys

@@ -1,5 +1,5 @@
 -- What the program prints for what is asked, and what its faults say.
-use Rattle.std.specs.Prelude.{◌≡◌, ◌≢◌, ◌⊎◌, ℕ, Bool, true, false, List, [], ◌++◌, Option, None, Some, IfSome, take, ⊤, is_some, if◌then◌else◌, codes}
+use Rattle.std.specs.Prelude.{◌≡◌, ◌≢◌, ◌⊎◌, ℕ, Bool, true, false, List, [], ◌++◌, map, Option, None, Some, IfSome, take, ⊤, is_some, if◌then◌else◌, codes}
 use Rattle.std.specs.Io.KnownBytes.{Appends}
 use Rattle.std.specs.Global.{Vec}
 use Rattle.std.specs.Option.{option_copied, option_map}
@@ -46,6 +46,9 @@ use Rattle.pcml_why_script.specs.Telling.{TellsWhyNot}
 use Rattle.script.specs.Sources.{Script}
 use Rattle.script.specs.Spelling.{Spells}
 use Rattle.script.specs.FirstFaults.{Tells}
+use Rattle.script.specs.Lines.{AreLined}
+use Rattle.script_tree.specs.Trees.{block_of}
+use Rattle.script_tree.specs.declared.tree.Block.{Block as Tree}
 use Rattle.script.specs.declared.fault.ScriptFault.TheVariants as scripts
 
 -- Which bytes the file of a name holds. No contract says more of it than the source of the files does.
@@ -83,12 +86,18 @@ OfJournal Holds script journal Says Refuses Unlawful text = OfFiles Holds script
 OfJournal Holds script journal Says Refuses Denied text = ⊥
 OfJournal Holds script journal Says Refuses Lacking text = ⊥
 
+-- the trees of the script that the source spells, with the lines of its text
+pub record AreTreesOf (source : List ℕ) (s : Script) (trees : List Tree) : Type 0 where
+  pub same : map block_of trees ≡ map (λ p. p.body) s.processes
+  pub lined : AreLined source trees
+
 -- where a journal leads, as text, why the processes stand there or why it is no run, its chart, what may come next, and how often each took part
 abbrev pub AnswersReplay : Files → List ℕ → List ℕ → ℕ → Verdict → List ℕ → Type 0
 AnswersReplay Holds script journal rows verdict text = OfJournal Holds script journal (λ source s read told. IsReplayed s rows read told) (λ s read told. IsNoRun s rows read told) verdict text
 
 abbrev pub AnswersWhy : Files → List ℕ → List ℕ → ℕ → Verdict → List ℕ → Type 0
-AnswersWhy Holds script journal rows verdict text = OfJournal Holds script journal (λ source s read told. IsTold s source rows read told) (λ s read told. IsRefused s rows read told) verdict text
+AnswersWhy Holds script journal rows verdict text = OfJournal Holds script journal (λ source s read told. (trees : List Tree) × AreTreesOf source s trees × IsTold s trees source rows read told)
+    (λ s read told. IsRefused s rows read told) verdict text
 
 -- of a journal that is no run there is no chart: that is a fault
 abbrev pub AnswersChart : Files → List ℕ → List ℕ → ℕ → Option (List ℕ) → ℕ → ℕ → Form → Verdict → List ℕ → Type 0
@@ -154,9 +163,9 @@ abbrev pub verdict_by : Option (List Bool) → List End → Verdict
 verdict_by None ends = Done
 verdict_by (Some marks) ends = if has_unended marks ends then Lacking else Done
 
--- why the processes stand where the commits lead, where that is asked for
+-- why the processes stand where the commits lead, at the lines of the script's trees, where that is asked for
 abbrev pub TellsWhyAsked : Bool → Script → List ℕ → ℕ → List Commit → List ℕ → Type 0
-TellsWhyAsked true s source rows commits told = IsWhyOf s source rows commits told
+TellsWhyAsked true s source rows commits told = (trees : List Tree) × AreTreesOf source s trees × IsWhyOf s trees source rows commits told
 TellsWhyAsked false s source rows commits told = told ≡ []
 
 -- What a run of the script that a file spells prints, in its lines and the rest; the lines are kept in the file that is named. Where

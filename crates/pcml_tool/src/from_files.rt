@@ -2,12 +2,13 @@
 
 ghost use Rattle.std.specs.Prelude.{◌≡◌, ◌≢◌, ◌≤◌, ◌⊎◌, List, ℕ, None, IfSome, IfOk, IfErr, OnOk, length, take, drop};
 ghost use Rattle.std.specs.Option.{option_copied, option_map};
+ghost use Rattle.script.specs.Lines.{trees_of_script};
 ghost use Rattle.script.specs.Scripts.{script_of};
 ghost use Rattle.script.specs.Spelling.{Spells};
 ghost use Rattle.pcml_tool.specs.declared.fault.Fault.TheVariants.{Memory, Unwritten};
 ghost use Rattle.pcml_texts.specs.Check.{IsChecked};
 ghost use Rattle.pcml_tool.specs.Play.{IsPlayed};
-ghost use Rattle.pcml_tool.specs.Command.{AnswersChart, AnswersNext, AnswersReplay, AnswersStats, AnswersWhy, AnswersWhyScript, AnswersWhyShort, IsJudged, FailsChart, FailsParse, FailsPlay, FailsRead, FailsReplay, IsToldShort, IsToldWhyNot, OfSchedule, printed};
+ghost use Rattle.pcml_tool.specs.Command.{AnswersChart, AnswersNext, AnswersReplay, AnswersStats, AnswersWhy, AnswersWhyScript, AnswersWhyShort, AreTreesOf, IsJudged, FailsChart, FailsParse, FailsPlay, FailsRead, FailsReplay, IsToldShort, IsToldWhyNot, OfSchedule, printed};
 ghost use Rattle.pcml_tool.specs.declared.from_files.Verdict.TheVariants.{Done};
 ghost use Rattle.pcml_files.specs.Files.{Fits};
 
@@ -55,6 +56,7 @@ pub(crate) fn read_source<S: Source>(
     name: &str,
 ) -> Result<(Vec<u8>, Script), Fault>
     ensures read { IfOk result (λ read. S.holds source.old name.now read.0.items × Spells read.0.items (script_of read.1)) }
+    ensures trees { IfOk result (λ read. AreTreesOf read.0.items (script_of read.1) (trees_of_script read.1)) }
     ensures fault { IfErr result (FailsParse (S.holds source.old) name.now) }
     ensures kept { (name bytes : List ℕ) → S.holds source.new name bytes → S.holds source.old name bytes }
 {

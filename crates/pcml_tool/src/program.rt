@@ -1,6 +1,7 @@
 //! The program, over any files and any two streams.
 
 ghost use Rattle.std.specs.Prelude.{◌≡◌, ◌≤◌, ◌⊎◌, List, ℕ, IfOk, IfErr, drop, length, take};
+ghost use Rattle.script.specs.Lines.{trees_of_script};
 ghost use Rattle.script.specs.Scripts.{script_of};
 ghost use Rattle.std.specs.Io.KnownBytes.{Appends};
 ghost use Rattle.journal_replay.specs.Runs.{IsRun};
@@ -10,7 +11,7 @@ ghost use Rattle.pcml_request.specs.declared.request.Request.TheVariants.{Outcom
 ghost use Rattle.pcml_tool.specs.declared.fault.Fault.TheVariants.{Memory, Unwritten};
 ghost use Rattle.pcml_tool.specs.declared.from_files.Verdict.TheVariants.{Done, Lacking};
 ghost use Rattle.pcml_request.specs.Requests.{CanBeAnswered, all_rows};
-ghost use Rattle.pcml_tool.specs.Command.{Answers, AnswersOutcomes, AnswersRun, AreNeeded, AsksOfJournal, AsksPlainly, Began, Fails, FailsNamed, FailsOutcomes, FailsRun, FailsRunning, TellsWhyAsked, marks_of, verdict_by};
+ghost use Rattle.pcml_tool.specs.Command.{Answers, AnswersOutcomes, AnswersRun, AreNeeded, AreTreesOf, AsksOfJournal, AsksPlainly, Began, Fails, FailsNamed, FailsOutcomes, FailsRun, FailsRunning, TellsWhyAsked, marks_of, verdict_by};
 ghost use Rattle.pcml_tool.specs.Faults.{status_of};
 ghost use Rattle.pcml_tool.specs.Run.{TellsAsked};
 
@@ -112,6 +113,7 @@ fn why_asked(
 ) -> Result<Vec<u8>, Fault>
     requires rows { rows ≤ 67107840 }
     requires run { IsRun (script_of script.now).processes rows commits.now }
+    requires trees { AreTreesOf text.now (script_of script.now) (trees_of_script script.now) }
     ensures told { IfOk result (λ told. TellsWhyAsked why (script_of script.now) text.now rows commits.now told.items) }
     ensures fault { IfErr result (λ fault. fault ≡ Memory) }
 {

@@ -14,7 +14,7 @@ use Rattle.thread_stand.specs.declared.trouble.Kind.TheVariants as kind
 use Rattle.thread_stand.specs.declared.trouble.Trouble.{Trouble}
 use Rattle.thread_stand.specs.declared.trouble.Trouble.TheVariants.{Unset, NotOfKind, Below, Above, Nacks, Count}
 use Rattle.thread_stand.specs.declared.stand.Stand.{Stand}
-use Rattle.thread_stand.specs.declared.stand.Stand.TheVariants.{Offers, Fails}
+use Rattle.thread_stand.specs.declared.stand.Stand.TheVariants.{Fails}
 
 -- VARIABLES
 
@@ -45,11 +45,6 @@ variables_below names variables store (suc v) =
 -- a line of those that are set, where some are
 abbrev pub variables_text : Naming → List (List ℕ) → List (Option Atom) → List ℕ
 variables_text names variables store = if some_set store then variables_below names variables store (length store) ++ 10 ∷ [] else []
-
--- the variables of a process that waits
-abbrev pub known_text : Naming → List (List ℕ) → Stand → List ℕ
-known_text names variables (Offers store) = variables_text names variables store.items
-known_text names variables stand = []
 
 -- TROUBLES
 

@@ -22,9 +22,8 @@ use Rattle.pcml_why_sites.specs.Edges.{edges_text}
 use Rattle.pcml_why_sites.specs.Knots.{IsKnot, waits_for}
 use Rattle.pcml_why_sites.specs.Sites.{AreSites}
 use Rattle.pcml_why_sites.specs.Writing.{Written, texts_below}
-use Rattle.pcml_why_sites.specs.Lines.{statement_lines}
 use Rattle.pcml_why_sites.specs.Offering.{is_open, is_waiting, others}
-use Rattle.pcml_why.specs.Variables.{known_text, wrong_text}
+use Rattle.pcml_why.specs.Variables.{variables_text, wrong_text}
 use Rattle.pcml_why_sites.specs.declared.site.Site.{Site}
 use Rattle.protocol_values.specs.declared.Side.{Side}
 use Rattle.protocol_values.specs.declared.Side.TheVariants.{Sends, Receives}
@@ -163,7 +162,7 @@ offers_text names facts sites t s = if is_waiting s.end then flat_map (offer_lin
 
 -- the variables of a process that waits
 abbrev pub known_at : Naming → List (List ℕ) → Site → List ℕ
-known_at names variables s = if is_waiting s.end then known_text names variables s.stand else []
+known_at names variables s = if is_waiting s.end then variables_text names variables s.variables.now else []
 
 -- by the names of its variables
 abbrev pub process_text : Naming → List (List ℕ) → Facts → ℕ → List Site → ℕ → Site → List ℕ
@@ -204,9 +203,9 @@ last_text names texts sites None knot = knot_text names texts sites knot
 
 -- The text tells of each process of the state, in the names of the script, whose source is given, after these commits; and where no
 -- commit may come next, who wait for one another, and who of them for whom.
-pub record IsWhy (script : Script) (state standing : State) (commits : List Commit) (source : List ℕ) (rows : ℕ) (text : List ℕ) : Type 0 where
+pub record IsWhy (script : Script) (state : State) (commits : List Commit) (source : List ℕ) (rows : ℕ) (text : List ℕ) : Type 0 where
   pub sites : List Site
-  pub are : AreSites script.processes commits state standing (statement_lines source) sites
+  pub are : AreSites script.processes commits state sites
   pub facts : Facts
   pub tells_fired : (n : NackName) → TellsFired state n (facts.fired n)
   pub tells_ended : (t : ℕ) → TellsEnded state t (facts.ended t)

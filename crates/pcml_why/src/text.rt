@@ -4,7 +4,7 @@ ghost use Rattle.std.specs.Prelude.{◌≡◌, ◌<◌, ◌≤◌, IfOk, OnOk, l
 ghost use Rattle.std.specs.String.{string_bytes};
 ghost use Rattle.script.specs.Scripts.{script_of};
 ghost use Rattle.script_tree.specs.Processes.{proc_of};
-ghost use Rattle.journal_replay.specs.Replays.{thread_count};
+ghost use Rattle.journal_replay.specs.Replays.{StandsAfter, thread_count};
 ghost use Rattle.pcml_why.specs.Served.{AreAnswers};
 ghost use Rattle.pcml_why_sites.specs.Writing.{seen_texts};
 ghost use Rattle.pcml_why_sites.specs.Offering.{others};
@@ -234,7 +234,7 @@ fn push_known(out: &mut String, namer: &Namer<'_>, site: &Site<'_>) -> Result<()
     if !is_waiting(site.end) {
         return Ok(());
     }
-    namer.push_known(out, &site.stand)
+    namer.push_variables(out, site.variables)
 }
 
 impl Teller<'_> {
@@ -492,28 +492,26 @@ fn push_processes(
     teller.push_sites(out, rows)
 }
 
-/// Why each process of the state, where these commits led, stands where it does, a line for each process and each of its offers; and
-/// where no commit may come next, a line of those that wait for one another, and behind it a line for each two of them of
-/// which the one waits for the other. The text of the script is `source`. The processes of `standing` are those of the script, but print the number of each statement
-/// before it begins. A process waits for another by what the text of that one could offer: a channel that
-/// it holds in a variable is not seen.
+/// Why each process of the state, where these commits led, stands where it does, a line for each process and each of its
+/// offers; and where no commit may come next, a line of those that wait for one another, and behind it a line for each
+/// two of them of which the one waits for the other. The text of the script is `source`. A process waits for another by
+/// what the text of that one could offer: a channel that it holds in a variable is not seen.
 pub fn why_text(
     alloc: Global,
     script: &Script,
     state: &State,
-    standing: &State,
     commits: &[Commit],
     source: &[u8],
     rows: u32,
 ) -> Result<String, AllocError>
     requires few { thread_count state.now ≤ 64 }
     requires processes { thread_count state.now ≡ length (script_of script.now).processes }
-    requires same { thread_count standing.now ≡ thread_count state.now }
-    ensures { IfOk result (λ text. IsWhy (script_of script.now) state.now standing.now commits.now source.now rows (string_bytes text)) }
+    requires stands { StandsAfter (script_of script.now).processes rows commits.now state.now }
+    ensures { IfOk result (λ text. IsWhy (script_of script.now) state.now commits.now source.now rows (string_bytes text)) }
 {
     let tokens = scan(alloc, source)?;
     let placed: &[Placed<'_>] = &tokens.placed;
-    let told = sites_at(alloc, script, commits, state, standing, placed)?;
+    let told = sites_at(alloc, script, commits, state)?;
     let sites: &[Site<'_>] = &told;
     let mut out = String::new(alloc);
     push_processes(alloc, &mut out, script, state, sites, rows)?;

@@ -3,7 +3,7 @@
 ghost use Rattle.std.specs.Prelude.{◌≡◌, [], OnOk, Some, get_or, length};
 ghost use Rattle.script.specs.Scripts.{script_of};
 ghost use Rattle.script_tree.specs.Processes.{proc_of};
-ghost use Rattle.pcml_why.specs.Variables.{above_words, below_words, counted, fault_text, kind_word, known_text, lead, nacks_words, not_of_kind, some_set, trouble_text, variable_text, variables_below, variables_text, wrong_text};
+ghost use Rattle.pcml_why.specs.Variables.{above_words, below_words, counted, fault_text, kind_word, lead, nacks_words, not_of_kind, some_set, trouble_text, variable_text, variables_below, variables_text, wrong_text};
 ghost use Rattle.journal_text.specs.Names.{named};
 ghost use Rattle.script.specs.Appending.{Adds};
 
@@ -132,7 +132,11 @@ impl Namer<'_> {
     }
 
     /// Appends a line of the variables that are set, where some are.
-    fn push_variables(&self, out: &mut String, variables: &[Option<Atom>]) -> Result<(), AllocError>
+    pub(crate) fn push_variables(
+        &self,
+        out: &mut String,
+        variables: &[Option<Atom>],
+    ) -> Result<(), AllocError>
         ensures { OnOk result (Adds out.old out.new (variables_text (named (script_of self.now.script.now)) (proc_of self.now.process.now).variables variables.now)) }
     {
         if !some_set(variables) {
@@ -140,16 +144,6 @@ impl Namer<'_> {
         }
         self.push_each(out, variables)?;
         out.push_str("\n")
-    }
-
-    /// Appends the variables of a process that waits.
-    pub(crate) fn push_known(&self, out: &mut String, stand: &Stand) -> Result<(), AllocError>
-        ensures { OnOk result (Adds out.old out.new (known_text (named (script_of self.now.script.now)) (proc_of self.now.process.now).variables stand.now)) }
-    {
-        match stand {
-            Stand::Offers(variables) => self.push_variables(out, variables),
-            Stand::Finishes | Stand::Fails(_, _) | Stand::Strays => Ok(()),
-        }
     }
 
     fn push_not_of_kind(

@@ -1,58 +1,60 @@
--- The processes of a script by their numbers, and what commits give the threads.
-use Rattle.std.proofs.Common.{◌≡◌, ℕ, ◌+◌, ◌<◌, ◌≤◌, List, [], ◌∷◌, ◌++◌, Some, ap, get_or, length, map, refl, set, sym, subst, slice_get, take, ◌∙◌, arith, ⊎_elim}
-use Rattle.std.specs.Global.{Vec}
-use Rattle.std.proofs.lemmas.Bool.{cases_eq}
-use Rattle.std.proofs.lemmas.List.{get_or-map, get_or-set_other, get_or-set_same, length-set}
-use Rattle.std.proofs.lemmas.Option.{get_or_from_slice_get, same_Some, slice_get-get_or, slice_get_within}
+-- The processes of a script by their numbers, how they stand, and what commits give a thread.
+use Rattle.std.proofs.Common.{◌≡◌, ℕ, ◌+◌, ◌<◌, List, [], ◌∷◌, ◌++◌, Some, ap, get_or, length, map, sym, subst, slice_get, take, ◌∙◌}
+use Rattle.std.proofs.lemmas.List.{get_or-map}
+use Rattle.std.proofs.lemmas.Option.{get_or_from_slice_get, slice_get-get_or}
 use Rattle.script_tree.specs.Processes.{Proc}
 use Rattle.protocol_values.specs.declared.Commit.{Commit}
 use Rattle.thread.specs.After.{Chosen}
+use Rattle.thread.specs.Values.{Store}
+use Rattle.thread_stand.specs.Stands.{standing_of}
+use Rattle.thread_stand.specs.declared.stand.Stand.{Stand}
+use Rattle.thread_stand.proofs.Variables.{offers_are_told}
+use Rattle.journal_replay.specs.Lines.{trees_in}
+use Rattle.journal_replay.specs.Replays.{StandsAfter, TellsEnd}
 use Rattle.journal_replay.specs.Runs.{Config, applied, config_of, with_result}
+use Rattle.journal_replay.specs.Variables.{TellsVariables}
+use Rattle.journal_replay.specs.declared.end.End.{End}
+use Rattle.journal_replay.specs.declared.end.End.TheVariants.{Waiting, Ended, Spent, Faulted, Unstarted}
+use Rattle.journal_replay.specs.declared.state.State.{State}
 use Rattle.journal_replay.proofs.Sounding.{take-one}
 use Rattle.journal_replay.proofs.Standing.{config_of-more, result-at, result-other}
-use Rattle.pcml_why_sites.specs.Results.{AreResults, Gives}
+use Rattle.journal_replay.proofs.Variables.{waits_with}
+use Rattle.pcml_why_sites.specs.Results.{Gives}
+use Rattle.pcml_why_sites.specs.Sites.{TellsFault, TellsStand}
 
 -- what stands at a place of a list that a function made
 pub process-at : {A : Type 0} (f : A → Proc) (xs : List A) (t : ℕ) (d : A) (p : Proc) → t < length xs → slice_get (map f xs) t ≡ Some p → f (get_or xs t d) ≡ p
 process-at f xs t d p lt is = sym (get_or-map f xs t d p lt) ∙ get_or_from_slice_get (map f xs) t p p is
 
--- A PLACE OF A LIST THAT IS SET
+-- HOW A PROCESS STANDS
 
-set-there : {A : Type 0} (xs : List A) (i : ℕ) (y : A) → i < length xs → slice_get (set xs i y) i ≡ Some y
-set-there xs i y low = slice_get-get_or (set xs i y) i y (subst (λ (n : ℕ). i < n) (sym (length-set xs i y)) low) ∙ ap Some (get_or-set_same xs i y y low)
-
-set-elsewhere : {A : Type 0} (xs : List A) (i k : ℕ) (y z : A) → (k ≡ i → ⊥) → slice_get (set xs i y) k ≡ Some z → slice_get xs k ≡ Some z
-set-elsewhere xs i k y z other is =
-    slice_get-get_or xs k z (subst (λ (n : ℕ). k < n) (length-set xs i y) (slice_get_within (set xs i y) k z is))
-    ∙ ap Some (sym (get_or-set_other xs i k y z other) ∙ get_or_from_slice_get (set xs i y) k z z is)
+pub stands_so : (ps : List Proc) (rows t : ℕ) (commits : List Commit) (state : State) (end : End) (variables : Store) (stand : Stand) (p : Proc) → StandsAfter ps rows commits state → TellsEnd state t end → TellsVariables state t variables →
+    slice_get ps t ≡ Some p → TellsFault end (standing_of p t (config_of commits t)) stand → TellsStand end (standing_of p t (config_of commits t)) variables stand
+stands_so ps rows t commits state Waiting variables stand p stands end tells is fault =
+    let told = end ps rows commits stands in
+    let w = waits_with ps rows t (config_of commits) (trees_in state) told.0 variables p is told.1 (tells ps rows commits stands) in
+    λ store are. offers_are_told p w.tree t (config_of commits t) w.event w.said store w.same w.offers (are ∙ w.are)
+stands_so ps rows t commits state (Faulted why) variables stand p stands end tells is fault = fault
+stands_so ps rows t commits state Ended variables stand p stands end tells is fault = tt
+stands_so ps rows t commits state Spent variables stand p stands end tells is fault = tt
+stands_so ps rows t commits state Unstarted variables stand p stands end tells is fault = tt
 
 -- WHAT A COMMIT GIVES
 
-pub gives-one : (old : List (Vec Chosen)) (i : ℕ) (before after : Vec Chosen) (r : Chosen) → i < length old → slice_get old i ≡ Some before → after.items ≡ before.items ++ r ∷ [] → Gives (with_result i r) old (set old i after)
-gives-one old i before after r low was made = (
-  length-set old i after,
-  λ config are t own at. ⊎_elim
-      (λ (same : t ≡ i).
-      let mine : after ≡ own = same_Some after own (sym (set-there old i after low) ∙ ap (slice_get (set old i after)) (sym same) ∙ at) in
-      ap (λ (v : Vec Chosen). v.items) (sym mine) ∙ made ∙ ap (λ (l : List Chosen). l ++ r ∷ []) (are i before was) ∙ ap (λ (n : ℕ). config n ++ r ∷ []) (sym same) ∙ sym (result-at i t r config same))
-      (λ other. are t own (set-elsewhere old i t after own other at) ∙ sym (result-other i t r config other))
-      (cases_eq t i),
-)
+pub gives-one : (thread of : ℕ) (r : Chosen) (old new : List Chosen) → thread ≡ of → new ≡ old ++ r ∷ [] → Gives thread (with_result of r) old new
+gives-one thread of r old new same made = λ config is. made ∙ ap (λ (l : List Chosen). l ++ r ∷ []) is ∙ sym (result-at of thread r config same)
 
--- a thread that is not among them
-pub gives-none : (old : List (Vec Chosen)) (i : ℕ) (r : Chosen) → length old ≤ i → Gives (with_result i r) old old
-gives-none old i r past = (
-  refl,
-  λ config are t own at. are t own at ∙ sym (result-other i t r config (λ (e : t ≡ i). omega (arith, e, past, slice_get_within old t own at))),
-)
+-- a result of another thread
+pub gives-none : (thread of : ℕ) (r : Chosen) (old : List Chosen) → (thread ≡ of → ⊥) → Gives thread (with_result of r) old old
+gives-none thread of r old other = λ config is. is ∙ sym (result-other of thread r config other)
 
-pub gives-both : (f g : Config → Config) (old middle new : List (Vec Chosen)) → Gives f old middle → Gives g middle new → Gives (λ config. g (f config)) old new
-gives-both f g old middle new first second = (second.0 ∙ first.0, λ config are. second.1 (f config) (first.1 config are))
+pub gives-both : (thread : ℕ) (f g : Config → Config) (old middle new : List Chosen) → Gives thread f old middle → Gives thread g middle new → Gives thread (λ config. g (f config)) old new
+gives-both thread f g old middle new first second = λ config is. second (f config) (first config is)
 
 -- one more commit
-pub results-more : (commits : List Commit) (i : ℕ) (e : Commit) (old new : List (Vec Chosen)) → i < length commits → AreResults (config_of (take i commits)) old → Gives (λ config. applied config (get_or commits i e)) old new →
-    AreResults (config_of (take (i + 1) commits)) new
-results-more commits i e old new lt are gives =
+pub results-more : (commits : List Commit) (thread i : ℕ) (e : Commit) (old new : List Chosen) → i < length commits → old ≡ config_of (take i commits) thread → Gives thread (λ config. applied config (get_or commits i e)) old new →
+    new ≡ config_of (take (i + 1) commits) thread
+results-more commits thread i e old new lt is gives =
     let d = get_or commits i e in
-    let more : config_of (take (i + 1) commits) ≡ applied (config_of (take i commits)) d = ap config_of (take-one commits i d (slice_get-get_or commits i e lt) lt) ∙ config_of-more (take i commits) d in
-    subst (λ (config : Config). AreResults config new) (sym more) (gives.1 (config_of (take i commits)) are)
+    gives (config_of (take i commits)) is
+    ∙ ap (λ (config : Config). config thread) (sym (ap config_of (take-one commits i d (slice_get-get_or commits i e lt) lt) ∙ config_of-more (take i commits) d))

@@ -1,6 +1,5 @@
 pub mod Edges
 pub mod Knots
-pub mod Lines
 pub mod Offering
 pub mod Results
 pub mod Sites

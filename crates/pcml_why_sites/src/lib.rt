@@ -7,7 +7,6 @@
 
 mod edges;
 mod knot;
-mod lines;
 mod parts;
 mod results;
 mod site;

@@ -1,22 +1,18 @@
 //! Where a process stands.
 
-ghost use Rattle.std.specs.Prelude.{◌≡◌, ◌==◌, ◌&&◌, ◌≤◌, IfOk, length, map};
+ghost use Rattle.std.specs.Prelude.{◌≡◌, ◌==◌, ◌&&◌, ◌≤◌, ℕ, IfOk, length, map};
 ghost use Rattle.script_tree.specs.Processes.{proc_of};
-ghost use Rattle.std.specs.List.{flat_map, list_any};
-ghost use Rattle.journal_replay.specs.Replays.{thread_count};
-ghost use Rattle.pcml_why_sites.specs.Lines.{line_at, line_of};
+ghost use Rattle.std.specs.List.{list_any};
+ghost use Rattle.journal_replay.specs.Replays.{StandsAfter, thread_count};
 ghost use Rattle.script.specs.Scripts.{script_of};
-ghost use Rattle.script_token.specs.Lexemes.{seen};
 ghost use Rattle.pcml_why_sites.specs.Offering.{is_open, is_waiting, offers_on, others};
 ghost use Rattle.protocol_values.specs.Values.{is_on};
 ghost use Rattle.pcml_why_sites.specs.Sites.{AreSites};
 
-use crate::lines::lines_of;
-use crate::results::{results_of, stand_after};
+use crate::results::stand_after;
 use journal_replay::{End, State};
 use protocol_values::{Atom, Commit, NackName, Offer, Side};
 use script::Script;
-use script_token::Placed;
 use script_tree::Proc;
 use std::alloc::{AllocError, Global};
 use thread_stand::Stand;
@@ -26,27 +22,14 @@ use thread_stand::Stand;
 #[derive(Drop)]
 pub struct Site<'a> {
     pub end: End,
-    /// From 1; 0 where it is not known.
+    /// Of its open sync, or of the statement at which it faulted; 0 where it has ended or not started.
     pub line: usize,
+    /// With which it stands, by their numbers: one that was not set has no value.
+    pub variables: &'a [Option<Atom>],
+    /// Of one that faulted, with what went wrong.
     pub stand: Stand,
     pub offers: &'a [Offer],
     pub nacks: &'a [u8],
-}
-
-/// The line of the statement whose number was printed last.
-fn line_of(lines: &[usize], printed: &[Atom]) -> usize
-    ensures { result ≡ line_of lines.now printed.now }
-{
-    match printed.last() {
-        Some(Atom::Num(number)) => {
-            let before = number.saturating_sub(1);
-            match lines.get(before as usize) {
-                Some(line) => *line,
-                None => 0,
-            }
-        }
-        _ => 0,
-    }
 }
 
 /// Whether a process waits.
@@ -116,35 +99,27 @@ pub fn is_open(sites: &[Site<'_>], nack: NackName) -> bool
     }
 }
 
-/// Where each process of the state stands after the commits, by the numbers of statements that those of the other print.
+/// Where each of the processes stands after the commits, as the state has it.
 fn sites_of<'a>(
     alloc: Global,
     processes: &[Proc],
     commits: &[Commit],
     state: &'a State,
-    standing: &State,
-    lines: &[usize],
 ) -> Result<Vec<Site<'a>>, AllocError>
     requires few { thread_count state.now ≤ 64 }
     requires processes { thread_count state.now ≡ length processes.now }
-    requires same { thread_count standing.now ≡ thread_count state.now }
-    ensures { IfOk result (λ sites. AreSites (map proc_of processes.now) commits.now state.now standing.now lines.now sites.items) }
+    requires stands { (rows : ℕ) × StandsAfter (map proc_of processes.now) rows commits.now state.now }
+    ensures { IfOk result (λ sites. AreSites (map proc_of processes.now) commits.now state.now sites.items) }
 {
-    let results = results_of(alloc, commits, state.threads())?;
     let mut sites = Vec::new(alloc);
     for thread in 0..state.threads() {
         let (offers, nacks) = state.open(thread);
         let end = state.end(thread);
-        let stand = stand_after(
-            alloc,
-            &processes[thread],
-            thread as u8,
-            &results[thread],
-            end,
-        )?;
+        let stand = stand_after(alloc, &processes[thread], thread as u8, commits, end)?;
         sites.push(Site {
             end,
-            line: line_of(lines, standing.output(thread)),
+            line: state.line(thread) as usize,
+            variables: state.variables(thread),
             stand,
             offers,
             nacks,
@@ -153,21 +128,17 @@ fn sites_of<'a>(
     Ok(sites)
 }
 
-/// Where each process of the state stands after the commits, by the tokens of the script's text. The processes of
-/// `standing` are those of the script, but print the number of each statement before it begins.
+/// Where each process of the script stands after the commits, as the state has it.
 pub fn sites_at<'a>(
     alloc: Global,
     script: &Script,
     commits: &[Commit],
     state: &'a State,
-    standing: &State,
-    tokens: &[Placed<'_>],
 ) -> Result<Vec<Site<'a>>, AllocError>
     requires few { thread_count state.now ≤ 64 }
     requires processes { thread_count state.now ≡ length (script_of script.now).processes }
-    requires same { thread_count standing.now ≡ thread_count state.now }
-    ensures { IfOk result (λ sites. AreSites (script_of script.now).processes commits.now state.now standing.now (flat_map line_at (seen tokens.now)) sites.items) }
+    requires stands { (rows : ℕ) × StandsAfter (script_of script.now).processes rows commits.now state.now }
+    ensures { IfOk result (λ sites. AreSites (script_of script.now).processes commits.now state.now sites.items) }
 {
-    let lines = lines_of(alloc, tokens)?;
-    sites_of(alloc, script.processes(), commits, state, standing, &lines)
+    sites_of(alloc, script.processes(), commits, state)
 }

@@ -1,12 +1,10 @@
 use Rattle.std.proofs.Common.{◌≡◌, refl, List, ap, subst, sym, ◌∙◌, ℕ, ◌++◌, length}
 use Rattle.std.specs.Global.{Vec}
-use Rattle.std.specs.List.{flat_map}
 use Rattle.journal_replay.proofs.Nacks.{tells-ended, tells-fired}
 use Rattle.script.specs.Scripts.{script_of}
 use Rattle.script_token.specs.Lexemes.{placed_tokens, seen}
 use Rattle.script_token.specs.Tokens.{Token}
 use Rattle.script_token.specs.declared.lexeme.Placed.{Placed}
-use Rattle.pcml_why_sites.specs.Lines.{line_at}
 use Rattle.pcml_why_sites.specs.Sites.{AreSites}
 use Rattle.pcml_why_sites.specs.Writing.{seen_offers, seen_texts, texts_below}
 use Rattle.pcml_why_sites.specs.declared.writing.WrittenOffer.{WrittenOffer}
@@ -27,9 +25,7 @@ returns c =
     let are_texts : texts ≡ texts_below (seen c.deref-placed.result.now) (length sites) = ap (λ (l : List (Vec WrittenOffer)). seen_texts l) c.deref.ensures.value ∙ c.in_ok-texts.ensures in
     record {
       sites = sites;
-      are =
-          subst (λ (l : List (Token × ℕ)). AreSites (script_of c.args.script.now).processes c.args.commits.now c.args.state.now c.args.standing.now (flat_map line_at l) sites) tokens
-          (subst (λ (ss : List Site). AreSites (script_of c.args.script.now).processes c.args.commits.now c.args.state.now c.args.standing.now (flat_map line_at (seen c.deref-placed.result.now)) ss) (sym c.deref-sites.ensures.value) c.in_ok-told.ensures);
+      are = subst (λ (ss : List Site). AreSites (script_of c.args.script.now).processes c.args.commits.now c.args.state.now ss) (sym c.deref-sites.ensures.value) c.in_ok-told.ensures;
       facts = facts_of (script_of c.args.script.now).processes c.args.state.now;
       tells_fired = λ n. tells-fired c.args.state.now n;
       tells_ended = λ t. tells-ended c.args.state.now t;
@@ -55,3 +51,6 @@ pub push_last-requires : goal.push_last-requires
 push_last-requires c =
     ap length c.deref.ensures.value ∙ sym (length-map c.in_ok-texts.texts.items (λ (v : Vec WrittenOffer). seen_offers v.items)) ∙ ap length c.in_ok-texts.ensures
     ∙ length-texts (seen c.deref-placed.result.now) (length c.deref-sites.result.now)
+
+pub sites_at-requires-clause-stands : goal.sites_at-requires-clause-stands
+sites_at-requires-clause-stands c = (c.args.rows, c.requires.stands)

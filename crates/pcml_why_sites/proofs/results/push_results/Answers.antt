@@ -15,6 +15,6 @@ returns-in_ok-push_result-in-Pair c =
     let new = c.push_result-in-Pair.new.results.items in
     on_ok_weaker c.push_result-in-Pair.result
     (λ second.
-    subst (λ (d : Commit). Gives (λ config. applied config d) old new) (sym c.in-Pair.is)
-    (gives-both (with_result sender.0.thread (sender.1, Empty)) (with_result receiver.0.thread (receiver.1, c.in-Pair.msg)) old c.push_result.new.results.items new c.in_ok-push_result-in-Pair.ensures second))
+    subst (λ (d : Commit). Gives c.args.thread (λ config. applied config d) old new) (sym c.in-Pair.is)
+    (gives-both c.args.thread (with_result sender.0.thread (sender.1, Empty)) (with_result receiver.0.thread (receiver.1, c.in-Pair.msg)) old c.push_result.new.results.items new c.in_ok-push_result-in-Pair.ensures second))
     c.push_result-in-Pair.ensures

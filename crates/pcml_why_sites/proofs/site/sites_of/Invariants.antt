@@ -5,4 +5,4 @@ use Rattle.pcml_why_sites.specs.Sites.{TellsSite}
 use Rattle.pcml_why_sites.proofs.site.sites_of.Given as goal
 
 abbrev pub invariant-loop-thread : goal.invariant-loop-thread
-invariant-loop-thread l = HoldsOf (TellsSite (map proc_of l.processes) l.commits l.state l.standing l.lines) l.thread l.sites.items
+invariant-loop-thread l = HoldsOf (TellsSite (map proc_of l.processes) l.commits l.state) l.thread l.sites.items

@@ -1,3 +1,0 @@
-pub mod Numbered
-pub mod Alike
-pub mod Standing
