@@ -26,3 +26,4 @@ pub use crate::placed::is_placed;
 pub use crate::runs::{replay, restamp, settle};
 pub use crate::state::{ReplayFault, State};
 pub use crate::strand::Known;
+pub use crate::threads::spawners;

@@ -25,8 +25,8 @@ pub fn next_journal(
     ensures fault { IfErr result (Explains (script_of script.now) journal.now) }
 {
     match reach(alloc, script, journal, rows)? {
-        Reached::Run(commits, state) => {
-            let text = next_text(alloc, script, rows, &commits, &state)?;
+        Reached::Run(_, state) => {
+            let text = next_text(alloc, script, &state)?;
             Ok(Replayed::Lawful(text))
         }
         Reached::NoRun { text, .. } => Ok(Replayed::Unlawful(text.into_bytes())),

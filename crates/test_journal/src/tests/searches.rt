@@ -3,7 +3,6 @@
 ghost use Rattle.std.specs.Prelude.{◌≤◌};
 
 use super::check_same;
-use configurations::next_commits;
 use journal_replay::{End, replay};
 use outcomes::{Asked, Extent, Outcomes, Told, Unwatched, find_outcomes};
 use protocol_values::{Atom, Commit, Message, Row};
@@ -88,13 +87,13 @@ fn next_are_all_that_may_come(rt: HostRuntime) -> Result<(), Fail> {
     let Ok(start) = replay(alloc, script.processes(), 256, &[]) else {
         return Err(Fail::from("no start"));
     };
-    let next = next_commits(alloc, script.processes(), 256, &[], &start)?;
+    let next = start.next_commits(alloc)?;
     check_same(&rt, next.as_slice(), [sent(0, 1), sent(1, 2)].as_slice());
     let one = [sent(0, 1)];
     let Ok(end) = replay(alloc, script.processes(), 256, &one) else {
         return Err(Fail::from("no end"));
     };
-    let none = next_commits(alloc, script.processes(), 256, &one, &end)?;
+    let none = end.next_commits(alloc)?;
     check_same(&rt, none.len(), 0);
     Ok(())
 }
