@@ -187,14 +187,14 @@ pub line_one_more : (lines : List ℕ) (old new : List SeenProc) (p : SeenProc) 
 line_one_more lines old new p n m body read is reads has tree next before taken =
     let ps = map proc_of old in
     let all : map proc_of new ≡ ps ++ read ∷ [] = ap (map proc_of) is ∙ map-append proc_of old (p ∷ []) ∙ ap (λ q. ps ++ q ∷ []) reads in
-    let one : lined_of p ≡ lined_block lines (0 + count_all ps) read.body = (let from : n ≡ 0 + count_all ps = omega (arith, taken) in tree ∙ ap₂ (λ k b. lined_block lines k b) from (sym has)) in
-    (
-    ap trees_in is
-    ∙ map-append lined_of old (p ∷ [])
-    ∙ ap₂ (λ (xs : List lined.Block) x. xs ++ x ∷ []) before one
-    ∙ sym (all_more lines 0 ps read)
-    ∙ ap (lined_all lines 0) (sym all),
-    omega (arith, next, taken, count_more ps read, ap count_all all, ap count_block has))
+    let one : lined_of p ≡ lined_block lines (0 + count_all ps) read.body = (let from : n ≡ 0 + count_all ps = omega (arith, taken) in tree ∙ ap₂ (λ k b. lined_block lines k b) from (sym has)) in (
+      ap trees_in is
+          ∙ map-append lined_of old (p ∷ [])
+          ∙ ap₂ (λ (xs : List lined.Block) x. xs ++ x ∷ []) before one
+          ∙ sym (all_more lines 0 ps read)
+          ∙ ap (lined_all lines 0) (sym all),
+      omega (arith, next, taken, count_more ps read, ap count_all all, ap count_block has),
+    )
 
 -- an error is no value
 pub no_ok : {X : Type 0} (r : Result X Stop) (P : X → Type 0) (e : Stop) → IsErrAnd r (λ y. y ≡ e) → IfOk r P

@@ -52,10 +52,7 @@ fn push_line(lines: &mut Vec<u32>, placed: &Placed<'_>) -> Result<(), AllocError
 }
 
 /// The lines of the words with which statements are written.
-pub(crate) fn statement_lines(
-    alloc: Global,
-    tokens: &[Placed<'_>],
-) -> Result<Vec<u32>, AllocError>
+pub(crate) fn statement_lines(alloc: Global, tokens: &[Placed<'_>]) -> Result<Vec<u32>, AllocError>
     ensures { IfOk result (λ lines. lines.items ≡ map line_of (text_words (seen tokens.now))) }
 {
     let mut lines = Vec::new(alloc);
