@@ -1,2 +1,3 @@
 pub mod Pieces
+pub mod Steps
 pub mod Summing

@@ -1,9 +1,8 @@
-//! How many commits of a journal are of a kind.
+//! Which commits are of a kind, and what one commit more does to the numbers of a kind.
 
-ghost use Rattle.std.specs.Prelude.{◌≡◌, if◌then◌else◌, length, max};
-ghost use Rattle.std.specs.List.{filter};
-ghost use Rattle.protocol_values.specs.Commits.{stamp_of};
-ghost use Rattle.pcml_stats.specs.Counts.{greatest, is_of};
+ghost use Rattle.std.specs.Prelude.{◌≡◌, ◌<◌};
+ghost use Rattle.pcml_stats.specs.Counts.{is_of};
+ghost use Rattle.pcml_stats.specs.Tallies.{counted, greater, most};
 
 use protocol_values::Commit;
 
@@ -23,7 +22,7 @@ pub(crate) enum Kind {
     All,
 }
 
-pub(crate) fn is_of(kind: Kind, commit: &Commit) -> bool
+fn is_of(kind: Kind, commit: &Commit) -> bool
     ensures { result ≡ is_of kind commit.now }
 {
     match *commit {
@@ -48,37 +47,25 @@ pub(crate) fn is_of(kind: Kind, commit: &Commit) -> bool
     }
 }
 
-/// How many commits are of this kind.
-pub(crate) fn count(kind: Kind, journal: &[Commit]) -> usize
-    ensures { result ≡ length (filter (is_of kind) journal.now) }
+/// A number of commits of this kind with one commit more.
+pub(crate) fn counted(kind: Kind, commit: &Commit, before: usize) -> usize
+    requires { before < most }
+    ensures { result ≡ counted kind commit.now before }
 {
-    let mut count = 0;
-    for commit in journal {
-        if is_of(kind, commit) {
-            count += 1;
-        }
+    if is_of(kind, commit) {
+        before + 1
+    } else {
+        before
     }
-    count
 }
 
 /// The stamp of a commit of this kind, or another where that is greater.
-fn greater(kind: Kind, commit: &Commit, before: u32) -> u32
-    ensures { result ≡ (if is_of kind commit.now then max (stamp_of commit.now) before else before) }
+pub(crate) fn greater(kind: Kind, commit: &Commit, before: u32) -> u32
+    ensures { result ≡ greater kind commit.now before }
 {
     if is_of(kind, commit) {
         commit.order().0.max(before)
     } else {
         before
     }
-}
-
-/// The greatest stamp of this kind's commits, 0 where there is none.
-pub(crate) fn greatest(kind: Kind, journal: &[Commit]) -> u32
-    ensures { result ≡ greatest kind journal.now }
-{
-    let mut greatest = 0;
-    for commit in journal {
-        greatest = greater(kind, commit, greatest);
-    }
-    greatest
 }

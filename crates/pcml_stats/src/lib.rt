@@ -10,8 +10,10 @@ ghost use Rattle.pcml_stats.specs.Stats.{stats_text};
 
 mod counts;
 mod lines;
+mod tallying;
 
-use crate::lines::{push_channels, push_last, push_processes};
+use crate::lines::{push_channels, push_processes, push_total};
+use crate::tallying::tally_journal;
 use protocol_values::Commit;
 use script::Script;
 use std::alloc::{AllocError, Global};
@@ -20,10 +22,11 @@ use std::alloc::{AllocError, Global};
 pub fn stats_text(alloc: Global, script: &Script, journal: &[Commit]) -> Result<String, AllocError>
     ensures { IfOk result (λ text. string_bytes text ≡ stats_text (named (script_of script.now)) (script_of script.now) journal.now) }
 {
+    let tallies = tally_journal(alloc, script, journal)?;
     let mut out = String::new(alloc);
-    push_processes(&mut out, script, journal)?;
-    push_channels(&mut out, script, journal)?;
-    push_last(&mut out, journal)?;
+    push_processes(&mut out, script, &tallies.processes)?;
+    push_channels(&mut out, script, &tallies.uses)?;
+    push_total(&mut out, journal.len(), tallies.stamps)?;
     Ok(out)
 }
 

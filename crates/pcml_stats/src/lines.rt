@@ -1,14 +1,14 @@
 //! The lines of processes and channels, and the last one.
 
-ghost use Rattle.std.specs.Prelude.{◌≡◌, OnOk, length};
+ghost use Rattle.std.specs.Prelude.{◌≡◌, OnOk, length, slice_index, slice_index_or};
 ghost use Rattle.script.specs.Appending.{Adds};
 ghost use Rattle.script.specs.Scripts.{script_of};
 ghost use Rattle.journal_text.specs.Names.{named};
-ghost use Rattle.pcml_stats.specs.Stats.{channel_line, counts_text, each_below, last_line, process_line, total_text, uses_text};
+ghost use Rattle.pcml_stats.specs.Stats.{counts_text, each_below, total_text, uses_text};
+ghost use Rattle.pcml_stats.specs.Tallies.{channel_text, nothing, process_text};
 
-use crate::counts::{Kind, count, greatest};
+use crate::tallying::Tally;
 use journal_text::{push_channel, push_thread};
-use protocol_values::Commit;
 use script::Script;
 use std::alloc::AllocError;
 
@@ -30,31 +30,26 @@ fn push_counts(
 fn push_process(
     out: &mut String,
     script: &Script,
-    journal: &[Commit],
     thread: u8,
+    tally: Tally,
 ) -> Result<(), AllocError>
-    ensures { OnOk result (Adds out.old out.new (process_line (named (script_of script.now)) journal.now thread)) }
+    ensures { OnOk result (Adds out.old out.new (process_text (named (script_of script.now)) thread tally)) }
 {
     push_thread(out, script, thread)?;
-    push_counts(
-        out,
-        count(Kind::Sends(thread), journal),
-        count(Kind::Receives(thread), journal),
-        count(Kind::Alone(thread), journal),
-        greatest(Kind::Of(thread), journal),
-    )
+    push_counts(out, tally.sends, tally.receives, tally.alone, tally.last)
 }
 
 /// A line for each process of the script.
 pub(crate) fn push_processes(
     out: &mut String,
     script: &Script,
-    journal: &[Commit],
+    tallies: &[Tally],
 ) -> Result<(), AllocError>
-    ensures { OnOk result (Adds out.old out.new (each_below (length (script_of script.now).processes) (process_line (named (script_of script.now)) journal.now))) }
+    requires { length tallies.now ≡ length (script_of script.now).processes }
+    ensures { OnOk result (Adds out.old out.new (each_below (length (script_of script.now).processes) (λ t. process_text (named (script_of script.now)) t (slice_index_or tallies.now t nothing)))) }
 {
     for thread in 0..script.processes().len() {
-        push_process(out, script, journal, thread as u8)?;
+        push_process(out, script, thread as u8, tallies[thread])?;
     }
     Ok(())
 }
@@ -68,39 +63,34 @@ fn push_uses(out: &mut String, uses: usize) -> Result<(), AllocError>
 fn push_one_channel(
     out: &mut String,
     script: &Script,
-    journal: &[Commit],
     chan: u8,
+    uses: usize,
 ) -> Result<(), AllocError>
-    ensures { OnOk result (Adds out.old out.new (channel_line (named (script_of script.now)) journal.now chan)) }
+    ensures { OnOk result (Adds out.old out.new (channel_text (named (script_of script.now)) chan uses)) }
 {
     out.push_str("channel ")?;
     push_channel(out, script, chan)?;
-    push_uses(out, count(Kind::Uses(chan), journal))
+    push_uses(out, uses)
 }
 
 /// A line for each channel of the script.
 pub(crate) fn push_channels(
     out: &mut String,
     script: &Script,
-    journal: &[Commit],
+    uses: &[usize],
 ) -> Result<(), AllocError>
-    ensures { OnOk result (Adds out.old out.new (each_below (length (script_of script.now).channels) (channel_line (named (script_of script.now)) journal.now))) }
+    requires { length uses.now ≡ length (script_of script.now).channels }
+    ensures { OnOk result (Adds out.old out.new (each_below (length (script_of script.now).channels) (λ c. channel_text (named (script_of script.now)) c (slice_index uses.now c)))) }
 {
     for chan in 0..script.channels() {
-        push_one_channel(out, script, journal, chan as u8)?;
+        push_one_channel(out, script, chan as u8, uses[chan])?;
     }
     Ok(())
 }
 
-fn push_total(out: &mut String, commits: usize, stamps: u32) -> Result<(), AllocError>
+/// How many commits there are, and their greatest stamp.
+pub(crate) fn push_total(out: &mut String, commits: usize, stamps: u32) -> Result<(), AllocError>
     ensures { OnOk result (Adds out.old out.new (total_text commits stamps)) }
 {
     write!(out, "commits {commits} stamps {stamps}\n")
-}
-
-/// How many commits there are, and their greatest stamp.
-pub(crate) fn push_last(out: &mut String, journal: &[Commit]) -> Result<(), AllocError>
-    ensures { OnOk result (Adds out.old out.new (last_line journal.now)) }
-{
-    push_total(out, journal.len(), greatest(Kind::All, journal))
 }

@@ -1,9 +1,10 @@
-use Rattle.std.proofs.Common.{◌≡◌, ◌++◌}
+use Rattle.std.proofs.Common.{◌≡◌, ◌++◌, get_or}
 use Rattle.std.specs.String.{string_bytes}
 use Rattle.script.specs.Scripts.{script_of}
 use Rattle.journal_text.specs.Names.{named}
-use Rattle.pcml_stats.specs.Stats.{channel_line, each_below}
+use Rattle.pcml_stats.specs.Stats.{each_below}
+use Rattle.pcml_stats.specs.Tallies.{channel_text}
 use Rattle.pcml_stats.proofs.lines.push_channels.Given as goal
 
 abbrev pub invariant-loop-chan : goal.invariant-loop-chan
-invariant-loop-chan l = string_bytes l.out ≡ string_bytes l.fn.out ++ each_below l.chan (channel_line (named (script_of l.script)) l.journal)
+invariant-loop-chan l = string_bytes l.out ≡ string_bytes l.fn.out ++ each_below l.chan (λ c. channel_text (named (script_of l.script)) c (get_or l.uses c 0))
