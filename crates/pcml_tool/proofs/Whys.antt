@@ -1,5 +1,5 @@
 -- The trees of a script that was read, and what is answered of why its processes stand where a journal leads them.
-use Rattle.std.proofs.Common.{◌≡◌, ℕ, List, [], ◌∷◌, map, ap, refl, subst, sym, ◌∙◌}
+use Rattle.std.proofs.Common.{◌≡◌, ℕ, List, [], ◌∷◌, map, ap, refl, subst, sym}
 use Rattle.script.specs.Lines.{AreLined, trees_of_script}
 use Rattle.script.specs.Scripts.{script_of}
 use Rattle.script.specs.Sources.{Script}
@@ -10,7 +10,7 @@ use Rattle.script_tree.specs.Trees.{Block, block_of}
 use Rattle.script_tree.specs.declared.process.Proc.{Proc as SeenProc}
 use Rattle.script_tree.specs.declared.tree.Block.{Block as Tree}
 use Rattle.pcml_files.specs.Files.{Fits}
-use Rattle.pcml_texts.specs.Why.{IsRefused, IsTold, TellsWhy}
+use Rattle.pcml_texts.specs.Why.{TellsWhy}
 use Rattle.pcml_texts.specs.declared.replay.Replayed.{Replayed}
 use Rattle.pcml_texts.specs.declared.replay.Replayed.TheVariants.{Lawful, Unlawful}
 use Rattle.pcml_tool.specs.Command.{AnswersWhy, AreTreesOf, Files, IsJudged}
