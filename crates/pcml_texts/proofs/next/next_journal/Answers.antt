@@ -8,14 +8,14 @@ pub next_text-requires : goal.next_text-requires
 next_text-requires c =
     let s = script_of c.args.script.now in
     let led : LeadsTo s c.args.rows c.args.journal.now c.in-Run.field-0.items c.in-Run.state =
-    subst (λ (r : Reached). Reaches s c.args.rows c.args.journal.now r) c.in-Run.is c.in_ok-reach.ensures.reached in
+    subst (λ (r : Reached). Reaches s c.args.rows c.args.journal.now r) c.in-Run.is c.in_ok-state.ensures.reached in
     (c.args.rows, c.in-Run.field-0.items, led.stands)
 
 pub returns-in-Run-clause-told : goal.returns-in-Run-clause-told
 returns-in-Run-clause-told c =
     let s = script_of c.args.script.now in
     let led : LeadsTo s c.args.rows c.args.journal.now c.in-Run.field-0.items c.in-Run.state =
-    subst (λ (r : Reached). Reaches s c.args.rows c.args.journal.now r) c.in-Run.is c.in_ok-reach.ensures.reached in
+    subst (λ (r : Reached). Reaches s c.args.rows c.args.journal.now r) c.in-Run.is c.in_ok-state.ensures.reached in
     let coming = c.in_ok-text-in-Run.ensures c.args.rows c.in-Run.field-0.items led.stands in
     record {
       commits = c.in-Run.field-0.items;
