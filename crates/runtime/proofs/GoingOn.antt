@@ -37,7 +37,7 @@ use Rattle.runtime_worker.specs.Machines.{AreFirst, AreNew, IsAtSync, IsTable}
 use Rattle.runtime_worker.specs.Widths.{AllOfferAtMost}
 use Rattle.runtime_worker.proofs.Machines.{has_scope}
 use Rattle.runtime_worker.proofs.Processes.{process_of}
-use Rattle.runtime.specs.Machines.{AreLeftBy, StandsOver}
+use Rattle.runtime_run.specs.Machines.{AreLeftBy, StandsOver}
 use Rattle.runtime.specs.Season.{IsClosed, IsLedgerOver, IsTableOf, NoneSettledWaits}
 use Rattle.runtime.specs.declared.season.ClosedSeason.{ClosedSeason}
 use Rattle.runtime.specs.Between.{AreHad, GoOnBelow, GoesOnFrom, HasResults, count_in, had_by}

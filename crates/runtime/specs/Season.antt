@@ -17,7 +17,7 @@ use Rattle.journal_replay.specs.Runs.{IsRun, config_of}
 use Rattle.journal_order.specs.Behind.{GoesOn, TellsRun, run_on}
 use Rattle.journal.specs.Concluding.{AreGone}
 use Rattle.runtime.specs.Between.{AreHad, HasResults}
-use Rattle.runtime.specs.Machines.{AreLeftBy}
+use Rattle.runtime_run.specs.Machines.{AreLeftBy}
 use Rattle.runtime.specs.Played.{ArePlayed, NeedsOneMore}
 use Rattle.runtime.specs.declared.season.ClosedSeason.{ClosedSeason}
 use Rattle.runtime.specs.declared.season.Next.{Next}
