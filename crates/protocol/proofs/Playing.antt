@@ -3,7 +3,7 @@ use Rattle.std.proofs.Common.{◌≡◌, ℕ, suc, ◌+◌, ◌<◌, List, [], �
 use Rattle.std.proofs.lemmas.List.{take_more, drop_more, take-append-drop, length-take-le}
 use Rattle.protocol_values.specs.declared.Seat.{Seat}
 use Rattle.protocol_values.specs.declared.Step.{Step}
-use Rattle.protocol.specs.Worlds.{World, Allowed, after_step, Plays, IsRefused}
+use Rattle.protocol_ledger.specs.Worlds.{World, Allowed, after_step, Plays, IsRefused}
 
 pub plays_more : (w v : World) (xs : List (Seat × Step)) (s : Seat × Step) → Plays w xs v → Allowed v s.0 s.1 → Plays w (xs ++ s ∷ []) (after_step v s.0 s.1)
 plays_more w v [] s p a = (subst (λ (u : World). Allowed u s.0 s.1) p a, ap (λ (u : World). after_step u s.0 s.1) p)

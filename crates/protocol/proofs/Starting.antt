@@ -6,17 +6,17 @@ use Rattle.protocol_values.specs.declared.Row.{Row}
 use Rattle.protocol_values.specs.declared.Cell.{Cell}
 use Rattle.protocol_values.specs.declared.Cell.TheVariants.{Fresh}
 use Rattle.protocol.specs.declared.state.State.{State}
-use Rattle.protocol.specs.Openings.{AreFirstWords, Begins, IsOpening, Opening, greatest, held_first}
-use Rattle.protocol.specs.Tables.{all_rows, cell_at, number_of, names}
+use Rattle.protocol_ledger.specs.Openings.{AreFirstWords, Begins, IsOpening, Opening, greatest, held_first}
+use Rattle.protocol_ledger.specs.Tables.{all_rows, cell_at, number_of, names}
 use Rattle.protocol_values.specs.Values.{joined_of}
-use Rattle.protocol.specs.Worlds.{World, start_world}
-use Rattle.protocol.specs.Kept.{Kept}
+use Rattle.protocol_ledger.specs.Worlds.{World, start_world}
+use Rattle.protocol_ledger.specs.Kept.{Kept}
 use Rattle.protocol.specs.States.{world_of, IsSound, Tells}
-use Rattle.protocol.proofs.Beginning.{first_cell}
-use Rattle.protocol.proofs.Keeping.{held_inside, length_all}
-use Rattle.protocol.proofs.Naming.{namer_none}
-use Rattle.protocol.proofs.LedgerLemmas.{at_number, kept_opening, kept_start, start_cell}
-use Rattle.protocol.proofs.Places.{row_inside}
+use Rattle.protocol_ledger.proofs.Beginning.{first_cell}
+use Rattle.protocol_ledger.proofs.Keeping.{held_inside, length_all}
+use Rattle.protocol_ledger.proofs.Naming.{namer_none}
+use Rattle.protocol_ledger.proofs.LedgerLemmas.{at_number, kept_opening, kept_start, start_cell}
+use Rattle.protocol_ledger.proofs.Places.{row_inside}
 
 nobody : (n i : ℕ) → get_or (replicate {A = Option Row} n None) i None ≡ None
 nobody n i = ⊎_elim
