@@ -24,7 +24,7 @@ use Rattle.protocol.specs.Tables.{all_rows, course_at, cell_at, word_at, binding
 use Rattle.protocol.specs.Worlds.{World, holder_at, first_row}
 use Rattle.protocol_ledger.proofs.Beginning.{first_binding, first_carried, first_cell, first_course}
 use Rattle.protocol_ledger.proofs.Linking.{some_inj}
-use Rattle.protocol.proofs.Starting.{next_begins}
+use Rattle.protocol_ledger.proofs.FirstWords.{next_begins}
 use Rattle.protocol_ledger.proofs.Places.{row_from}
 use Rattle.protocol_ledger.proofs.RowLemmas.{same_row}
 use Rattle.protocol.specs.Standing.{AreResults, Result, Stands}

@@ -20,7 +20,7 @@ use Rattle.protocol.specs.Worlds.{World, Allowed, after_step}
 use Rattle.protocol_ledger.proofs.Acting.{ends-step, starts-step}
 use Rattle.protocol_ledger.proofs.Onward.{grows-step}
 use Rattle.protocol_ledger.proofs.Standing.{results-stay}
-use Rattle.protocol.proofs.Playing.{plays_more}
+use Rattle.protocol_ledger.proofs.Playing.{plays_more}
 use Rattle.cell_table.specs.declared.view.View.{View}
 use Rattle.cell_table.specs.declared.view.Shape.{Shape}
 use Rattle.cell_table.specs.Sight.{Has}

@@ -1,4 +1,3 @@
 pub mod Telling
 pub mod Soundness
-pub mod Playing
 pub mod Starting

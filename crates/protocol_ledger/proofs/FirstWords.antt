@@ -1,15 +1,18 @@
--- The words of a table that goes on from an opening, written thread by thread and then nack by nack.
-use Rattle.std.proofs.Common.{◌≡◌, ℕ, ◌+◌, ◌*◌, ◌/◌, ◌%◌, ◌<◌, true, List, length, get_or, set, replicate, sym, ap, ◌∙◌, ⊎_elim, arith}
+-- The words of a table that goes on from an opening, written thread by thread and then nack by nack; and the world that
+-- has them.
+use Rattle.std.proofs.Common.{◌≡◌, ℕ, ◌+◌, ◌*◌, ◌/◌, ◌%◌, ◌<◌, true, List, length, get_or, map, set, replicate, sym, ap, ◌∙◌, ⊎_elim, Option, None, arith}
 use Rattle.std.proofs.lemmas.Bool.{and_from, cases_eq, lt-ltb}
-use Rattle.std.proofs.lemmas.List.{get_or-set_other, get_or-set_same, length-replicate, length-set}
+use Rattle.std.proofs.lemmas.List.{get_or-set_other, get_or-set_same, length-map, length-replicate, length-set}
 use Rattle.protocol_values.specs.declared.NackName.{NackName}
 use Rattle.protocol_values.specs.Words.{course_word, nack_word}
 use Rattle.protocol_ledger.specs.declared.opening.NackState.TheVariants as state
-use Rattle.protocol_ledger.specs.Openings.{AreFirstWords, Opening, course_for, table_with, thread_in, word_for}
-use Rattle.protocol_ledger.specs.Tables.{course_place, is_nack, nack_at, nack_place, place_of, thread_len, word_at}
+use Rattle.protocol_ledger.specs.Openings.{AreFirstWords, Begins, Opening, course_for, greatest, held_first, table_with, thread_in, word_for}
+use Rattle.protocol_ledger.specs.Tables.{all_rows, course_place, is_nack, nack_at, nack_place, number_of, place_of, thread_len, word_at}
+use Rattle.protocol_ledger.specs.Worlds.{World}
 use Rattle.protocol_ledger.proofs.Closing.{nack_numbered, numbered}
-use Rattle.protocol_ledger.proofs.LedgerLemmas.{zeros}
-use Rattle.protocol_ledger.proofs.Places.{course_apart, course_nack_apart, course_place_inside, nack_apart, nack_inside, nack_place_inside, same_course_place, same_nack_place}
+use Rattle.protocol_ledger.proofs.Keeping.{held_inside, length_all}
+use Rattle.protocol_ledger.proofs.LedgerLemmas.{at_number, zeros}
+use Rattle.protocol_ledger.proofs.Places.{course_apart, course_nack_apart, course_place_inside, nack_apart, nack_inside, nack_place_inside, row_inside, same_course_place, same_nack_place}
 
 module _ (o : Opening) (rows : ℕ) where
   size : ℕ
@@ -119,3 +122,21 @@ module _ (o : Opening) (rows : ℕ) where
         ∙ w.states (n.thread * 64 + n.k) (omega (arith, thread, low));
     lives = λ p h. w.lives p h;
   }
+
+-- a world with the first words of an opening, and the holders of its first rows
+pub next_begins : (o : Opening) (rows seats : ℕ) (w : World) → w.table.threads ≡ length o.threads → w.table.rows ≡ rows → w.seats ≡ seats → w.table.opening ≡ greatest o → AreFirstWords o w.table
+    → w.holders ≡ map (held_first o seats) (all_rows w.table.threads w.table.rows) → w.lasts ≡ replicate w.table.threads None → Begins o rows seats w
+next_begins o rows seats w threads rows_are seats_are opening words holders lasts = record {
+  threads = threads;
+  rows_are = rows_are;
+  seats_are = seats_are;
+  opening = opening;
+  words = words;
+  all_rows = ap (λ (hs : List (Option ℕ)). length hs) holders ∙ length-map (all_rows w.table.threads w.table.rows) (held_first o seats) ∙ length_all w.table.threads w.table.rows;
+  held = λ r e.
+      let inside = row_inside w.table r e in
+      held_inside w r e
+      ∙ ap (λ (hs : List (Option ℕ)). get_or hs (number_of w.table.rows r) None) holders
+      ∙ at_number (held_first o seats) w.table.threads w.table.rows r None inside.0 inside.1;
+  lasts = lasts ∙ ap (λ n. replicate n None) threads;
+}

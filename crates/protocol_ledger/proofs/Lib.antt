@@ -25,3 +25,4 @@ pub mod Acting
 pub mod Results
 pub mod Short
 pub mod Sheets
+pub mod Playing

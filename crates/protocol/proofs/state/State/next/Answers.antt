@@ -4,7 +4,8 @@ use Rattle.protocol_values.specs.declared.Row.{Row}
 use Rattle.protocol_ledger.specs.Openings.{held_first, opening_of}
 use Rattle.protocol_ledger.specs.Tables.{all_rows}
 use Rattle.protocol_ledger.proofs.Keeping.{length_all}
-use Rattle.protocol.proofs.Starting.{next_begins, next_sound}
+use Rattle.protocol_ledger.proofs.FirstWords.{next_begins}
+use Rattle.protocol.proofs.Starting.{next_sound}
 use Rattle.protocol.proofs.state.State.next.Goals as goal
 
 pub invariant_of-result : goal.invariant_of-result
