@@ -15,10 +15,10 @@ use Rattle.protocol_values.specs.declared.NackName.{NackName}
 use Rattle.protocol_values.specs.Commits.{stamp_of}
 use Rattle.protocol.specs.Ledgers.{IsLawful, Ledger}
 use Rattle.protocol.specs.Openings.{HadStarted, Opening, thread_in}
-use Rattle.protocol.specs.declared.opening.Life.{Life}
-use Rattle.protocol.specs.declared.opening.Life.TheVariants.{Ended, Running, Unstarted}
-use Rattle.protocol.specs.declared.opening.NackState.{NackState}
-use Rattle.protocol.specs.declared.opening.NackState.TheVariants.{Unbound}
+use Rattle.protocol_ledger.specs.declared.opening.Life.{Life}
+use Rattle.protocol_ledger.specs.declared.opening.Life.TheVariants.{Ended, Running, Unstarted}
+use Rattle.protocol_ledger.specs.declared.opening.NackState.{NackState}
+use Rattle.protocol_ledger.specs.declared.opening.NackState.TheVariants.{Unbound}
 use Rattle.journal_order.specs.Behind.{TellsRun, nack_state}
 use Rattle.journal_order.specs.Laws.{IsOrderOf}
 use Rattle.journal_order.specs.Ledgers.{IsLedgerOf, fired_as}

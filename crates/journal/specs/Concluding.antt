@@ -5,9 +5,9 @@ use Rattle.script_tree.specs.declared.tree.Block.{Block as Tree}
 use Rattle.thread.specs.Machines.{Thread}
 use Rattle.protocol.specs.Ledgers.{Ledger}
 use Rattle.protocol.specs.Standing.{AreResults}
-use Rattle.protocol.specs.declared.opening.Life.{Life}
-use Rattle.protocol.specs.declared.opening.Life.TheVariants.{Unstarted, Running, Ended}
-use Rattle.protocol.specs.declared.opening.NackState.{NackState}
+use Rattle.protocol_ledger.specs.declared.opening.Life.{Life}
+use Rattle.protocol_ledger.specs.declared.opening.Life.TheVariants.{Unstarted, Running, Ended}
+use Rattle.protocol_ledger.specs.declared.opening.NackState.{NackState}
 use Rattle.journal_order.specs.Ledgers.{fired_as}
 use Rattle.journal_replay.specs.declared.strand.Known.{Known}
 use Rattle.protocol_values.specs.declared.Commit.{Commit}

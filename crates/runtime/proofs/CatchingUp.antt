@@ -19,7 +19,7 @@ use Rattle.thread.specs.Ranges.{BaseIsIn, MessageIsIn}
 use Rattle.protocol.specs.Acting.{ActsAs, Before, acts_in}
 use Rattle.protocol.specs.Ledgers.{HasCommit, IsLawful, Ledger, Offers, offer_in}
 use Rattle.protocol.specs.Standing.{Gives, Result}
-use Rattle.protocol.proofs.Closing.{each_pushed}
+use Rattle.protocol_ledger.proofs.Closing.{each_pushed}
 use Rattle.cell.proofs.Lists.{all_one}
 use Rattle.journal_replay.specs.Runs.{message_by}
 use Rattle.runtime_worker.specs.declared.resident.Suspended.{Suspended}

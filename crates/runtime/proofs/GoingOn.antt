@@ -22,11 +22,11 @@ use Rattle.protocol.specs.Ledgers.{HasCommit, IsLawful, Ledger, LivesAt, Takes, 
 use Rattle.protocol.specs.Openings.{Opening, TellsEnd, TellsNack, life_of, state_in, thread_in, word_for}
 use Rattle.protocol.specs.Standing.{AreResults, Result}
 use Rattle.protocol.specs.Tables.{bound_row, carried_by}
-use Rattle.protocol.specs.declared.opening.Life.{Life}
-use Rattle.protocol.specs.declared.opening.Life.TheVariants as life
-use Rattle.protocol.specs.declared.opening.NackState.{NackState}
-use Rattle.protocol.specs.declared.opening.NackState.TheVariants as nack
-use Rattle.protocol.proofs.Results.{one-results}
+use Rattle.protocol_ledger.specs.declared.opening.Life.{Life}
+use Rattle.protocol_ledger.specs.declared.opening.Life.TheVariants as life
+use Rattle.protocol_ledger.specs.declared.opening.NackState.{NackState}
+use Rattle.protocol_ledger.specs.declared.opening.NackState.TheVariants as nack
+use Rattle.protocol_ledger.proofs.Results.{one-results}
 use Rattle.cell.specs.Calls.{GridOf, opening_at}
 use Rattle.cell_table.specs.Rule.{AreMachines}
 use Rattle.cell_table.specs.Sight.{WasSettled}

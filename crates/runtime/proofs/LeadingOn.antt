@@ -21,10 +21,10 @@ use Rattle.thread.specs.Machines.{Broken, HasStopped, IsAfterAt, IsOpen, Open, O
 use Rattle.protocol.specs.Acting.{ActsAs, before_of}
 use Rattle.protocol.specs.Ledgers.{HasCommit, Ledger, Takes}
 use Rattle.protocol.specs.Openings.{HadEnded, HadStarted, IsOpening, Opening, greatest, opening_of, thread_in}
-use Rattle.protocol.specs.declared.opening.Life.{Life}
-use Rattle.protocol.specs.declared.opening.Life.TheVariants as life
-use Rattle.protocol.proofs.Beginning.{thread_below}
-use Rattle.protocol.proofs.Results.{gives-involves}
+use Rattle.protocol_ledger.specs.declared.opening.Life.{Life}
+use Rattle.protocol_ledger.specs.declared.opening.Life.TheVariants as life
+use Rattle.protocol_ledger.proofs.Beginning.{thread_below}
+use Rattle.protocol_ledger.proofs.Results.{gives-involves}
 use Rattle.cell.specs.Calls.{GridOf, opening_at}
 use Rattle.journal_replay.specs.Gathering.{HasGone}
 use Rattle.journal_replay.specs.Runs.{Config, HasRow, IsRun, config_of, no_results}

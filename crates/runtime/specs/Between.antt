@@ -11,8 +11,8 @@ use Rattle.thread.specs.After.{Chosen}
 use Rattle.thread.specs.Machines.{HasStopped, IsAfter, IsOpen, SameProcess, StartsAs, Thread}
 use Rattle.thread.specs.Memories.{AddsNew}
 use Rattle.thread.specs.Ranges.{MessageIsIn}
-use Rattle.protocol.specs.declared.opening.Life.{Life}
-use Rattle.protocol.specs.declared.opening.Life.TheVariants.{Unstarted, Running, Ended}
+use Rattle.protocol_ledger.specs.declared.opening.Life.{Life}
+use Rattle.protocol_ledger.specs.declared.opening.Life.TheVariants.{Unstarted, Running, Ended}
 use Rattle.protocol.specs.Ledgers.{HasCommit, Involves, Ledger}
 use Rattle.protocol.specs.Standing.{Gives}
 use Rattle.runtime_worker.specs.declared.resident.Suspended.{Suspended}

@@ -10,13 +10,13 @@ use Rattle.protocol.specs.Acting.{ActsAs, Before, IsStarted, StartedBefore, Star
 use Rattle.protocol.specs.Ledgers.{IsLawful, Ledger, ledger_of}
 use Rattle.protocol.specs.Openings.{HadStarted, start_opening}
 use Rattle.protocol.specs.Worlds.{start_world, waits}
-use Rattle.protocol.proofs.Acting.{ends-first, first_started, first_unended, starts-first}
-use Rattle.protocol.proofs.LedgerLemmas.{kept_start, lawful_ledger, start_greatest}
-use Rattle.protocol.proofs.Standing.{stands-ledger, stands-start}
+use Rattle.protocol_ledger.proofs.Acting.{ends-first, first_started, first_unended, starts-first}
+use Rattle.protocol_ledger.proofs.LedgerLemmas.{kept_start, lawful_ledger, start_greatest}
+use Rattle.protocol_ledger.proofs.Standing.{stands-ledger, stands-start}
 use Rattle.journal_replay.specs.Starting.{AtOnce, HasEnded, HasSpawned, IsOver}
 use Rattle.std.proofs.lemmas.Option.{none-some}
 use Rattle.protocol_values.specs.declared.NackName.{NackName}
-use Rattle.protocol.specs.declared.opening.NackState.TheVariants.{Enabled, Unbound}
+use Rattle.protocol_ledger.specs.declared.opening.NackState.TheVariants.{Enabled, Unbound}
 use Rattle.journal_replay.specs.Runs.{Config, CountsOf, IsGreatest, no_results}
 use Rattle.journal_replay.specs.Standing.{KnowsNack}
 use Rattle.journal_replay.proofs.Greatest.{greatest-none}

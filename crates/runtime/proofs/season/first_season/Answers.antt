@@ -17,8 +17,8 @@ use Rattle.runtime.proofs.GoingOn.{new_had}
 use Rattle.std.proofs.lemmas.List.{length-replicate}
 use Rattle.protocol_values.specs.declared.Commit.{Commit}
 use Rattle.protocol.specs.Openings.{greatest, start_opening}
-use Rattle.protocol.specs.declared.opening.NackState.TheVariants.{Unbound}
-use Rattle.protocol.proofs.LedgerLemmas.{start_greatest, start_threads}
+use Rattle.protocol_ledger.specs.declared.opening.NackState.TheVariants.{Unbound}
+use Rattle.protocol_ledger.proofs.LedgerLemmas.{start_greatest, start_threads}
 use Rattle.cell.specs.Calls.{opening_at}
 use Rattle.journal_replay.specs.Runs.{IsRun, config_of}
 use Rattle.journal_replay.proofs.Running.{run-none}
