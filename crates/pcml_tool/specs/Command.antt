@@ -41,8 +41,8 @@ use Rattle.outcomes.specs.declared.asked.Asked.{Asked}
 use Rattle.outcomes.specs.Asking.{has_unended}
 use Rattle.pcml_outcomes.specs.Told.{AreFound, NamesNeeded, SpellsAsked, asked_for, finding, outcomes_text}
 use Rattle.pcml_tool.specs.Searching.{FailsAsked, IsAskedBy, verdict_of}
-use Rattle.pcml_why_script.specs.Short.{TellsWhyShort}
-use Rattle.pcml_why_script.specs.Telling.{TellsWhyNot}
+use Rattle.script_mistakes.specs.Short.{TellsWhyShort}
+use Rattle.script_mistakes.specs.Telling.{TellsWhyNot}
 use Rattle.script.specs.Sources.{Script}
 use Rattle.script.specs.Spelling.{Spells}
 use Rattle.script.specs.FirstFaults.{Tells}
