@@ -10,8 +10,8 @@ use Rattle.journal_replay.specs.Runs.{Follows, IsRun}
 use Rattle.journal_replay.proofs.Greatest.{more}
 use Rattle.journal_replay.proofs.Lists.{slice_get-last}
 use Rattle.journal_replay.proofs.Running.{run-more}
-use Rattle.journal_lines.proofs.Lining.{run_has_lines}
-use Rattle.journal_lines.proofs.Running.{all_at}
+use Rattle.journal_text.proofs.Lining.{run_has_lines}
+use Rattle.journal_text.proofs.Running.{all_at}
 use Rattle.journal_replay.specs.Nexting.{TellsNext}
 
 each_of : {A : Type 0} (P : A → Type 0) (xs : List A) → ((x : A) → Contains xs x → P x) → AllByRecursion P xs

@@ -2,7 +2,7 @@ use Rattle.std.proofs.Common.{◌≡◌, List, true, false, subst}
 use Rattle.std.proofs.lemmas.Result.{IfOk-weaker}
 use Rattle.script.specs.Scripts.{script_of}
 use Rattle.script_tree.specs.Processes.{Proc}
-use Rattle.journal_lines.proofs.Lining.{run_has_lines}
+use Rattle.journal_text.proofs.Lining.{run_has_lines}
 use Rattle.outcomes.specs.Outcomes.{AreAll, AreOutcomes, AreVisited, CanSpend}
 use Rattle.outcomes.specs.declared.Extent.TheVariants.{Whole}
 use Rattle.pcml_outcomes.specs.Told.{AreFound}

@@ -11,7 +11,7 @@ use Rattle.protocol_values.specs.declared.Atom.{Atom}
 use Rattle.journal_replay.specs.Runs.{end_of}
 use Rattle.journal_replay.specs.declared.end.End.{End}
 use Rattle.journal_replay.specs.declared.end.End.TheVariants as ends
-use Rattle.journal_lines.specs.Starts.{NoTextSpawns, IsSpawned, StartsWhereSpawned, TextSpawns, UnstartedIsNotStarted}
+use Rattle.journal_text.specs.Starts.{NoTextSpawns, IsSpawned, StartsWhereSpawned, TextSpawns, UnstartedIsNotStarted}
 
 -- THE LAW
 

@@ -29,8 +29,8 @@ use Rattle.journal_replay.proofs.Counting.{Short, all_syncs, grows, syncs_within
 use Rattle.journal_replay.proofs.Greatest.{more, more-cases}
 use Rattle.journal_replay.proofs.Standing.{config_of-more, result-at, result-other}
 use Rattle.journal_order.proofs.Runs.{RunsOn, runs-on}
-use Rattle.journal_lines.proofs.Rules.{in_text, IsThread}
-use Rattle.journal_lines.proofs.Text.{HasText, IsInText}
+use Rattle.journal_text.proofs.Rules.{in_text, IsThread}
+use Rattle.journal_text.proofs.Spelled.{HasText, IsInText}
 
 -- BASE EVENTS
 

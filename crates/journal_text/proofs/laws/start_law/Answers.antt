@@ -1,5 +1,5 @@
-use Rattle.journal_lines.proofs.Starting.{its_text_spawns, starts_where_spawned, unstarted_is_not_started}
-use Rattle.journal_lines.proofs.start_law.Goals as goal
+use Rattle.journal_text.proofs.Starting.{its_text_spawns, starts_where_spawned, unstarted_is_not_started}
+use Rattle.journal_text.proofs.laws.start_law.Goals as goal
 
 pub returns-clause-text : goal.returns-clause-text
 returns-clause-text c = its_text_spawns

@@ -1,8 +1,16 @@
-//! Laws: a run of a script has a text, and which of its processes have started. No code runs here.
-#![tactic(auto)]
+//! Laws: what bytes spell is one, a run has a text, and which processes have started.
 
-ghost use Rattle.journal_lines.specs.Laws.{PrintedHasNames, RunHasLines, RunIsReadAgain};
-ghost use Rattle.journal_lines.specs.Starts.{StartsWhereSpawned, TextSpawns, UnstartedIsNotStarted};
+ghost use Rattle.journal_text.specs.Journals.{HasOneFirstBadLine, SpellsOnlyOne, SpellsOrIsBad};
+ghost use Rattle.journal_text.specs.RunTexts.{PrintedHasNames, RunHasLines, RunIsReadAgain};
+ghost use Rattle.journal_text.specs.Starts.{StartsWhereSpawned, TextSpawns, UnstartedIsNotStarted};
+
+/// In the names of a script, bytes spell one list of commits at most, or else one line is their first bad
+/// one: so each answer of `read_journal` but for want of memory is the only one.
+pub fn journal_text_laws()
+    ensures one { SpellsOnlyOne }
+    ensures apart { SpellsOrIsBad }
+    ensures first { HasOneFirstBadLine }
+{}
 
 /// The commits of a run of a script that was read have lines: their threads and channels are declared, and
 /// their numbers are in range. So the text of its journal is read as that journal again. And what its

@@ -28,7 +28,7 @@ use Rattle.script.specs.Spelling.{script_meaning, Spells}
 use Rattle.script.proofs.Good.{Good, AllGood, texts_are_good}
 use Rattle.thread.proofs.Keeping.{Rule, NameOf, OperandOf, TermOf, TermsOf, ExprOf, ListOf, EventOf, MembersOf, StmtOf, BlockOf, into_name, from_name}
 use Rattle.journal_text.specs.Names.{Declared, names_of}
-use Rattle.journal_lines.proofs.Rules.{in_text}
+use Rattle.journal_text.proofs.Rules.{in_text}
 
 -- a name that is declared is one more
 declared_few : (names new : List (List ℕ)) (text : List ℕ) → declare 64 names text ≡ Some new → (length new ≡ length names + 1) × (length names < 64)

@@ -15,9 +15,9 @@ use Rattle.journal_text.specs.Names.{Declared, names_of, named}
 use Rattle.journal_text.specs.Journals.{HasAtom, HasCause, HasLine, HasMessage, Spells}
 use Rattle.journal_text.specs.Texts.{commits_text}
 use Rattle.journal_text.proofs.Journals.{spells_or_is_bad}
-use Rattle.journal_lines.specs.Laws.{RunHasLines, RunIsReadAgain, PrintedHasNames}
-use Rattle.journal_lines.proofs.Text.{has_text}
-use Rattle.journal_lines.proofs.Running.{printed_fine, run_lines}
+use Rattle.journal_text.specs.RunTexts.{RunHasLines, RunIsReadAgain, PrintedHasNames}
+use Rattle.journal_text.proofs.Spelled.{has_text}
+use Rattle.journal_text.proofs.Running.{printed_fine, run_lines}
 
 -- EACH IS A FACT
 

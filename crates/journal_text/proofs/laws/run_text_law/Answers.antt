@@ -1,5 +1,5 @@
-use Rattle.journal_lines.proofs.Lining.{run_has_lines, run_is_read_again, printed_has_names}
-use Rattle.journal_lines.proofs.run_text_law.Goals as goal
+use Rattle.journal_text.proofs.Lining.{run_has_lines, run_is_read_again, printed_has_names}
+use Rattle.journal_text.proofs.laws.run_text_law.Goals as goal
 
 pub returns-clause-lines : goal.returns-clause-lines
 returns-clause-lines c = run_has_lines
