@@ -3,3 +3,8 @@ pub mod Chains
 pub mod Naming
 pub mod Lines
 pub mod Journals
+pub mod Rules
+pub mod Spelled
+pub mod Running
+pub mod Lining
+pub mod Starting

@@ -5,3 +5,5 @@ pub mod Labels
 pub mod Journals
 pub mod Reading
 pub mod Answers
+pub mod RunTexts
+pub mod Starts

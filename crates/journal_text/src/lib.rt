@@ -6,12 +6,14 @@
 //!   first line that is not of the form (`journal_text_laws`).
 //! - `push_thread`, `push_atom`, `push_message` and the like append names and values to a text, as they stand in a
 //!   journal. A name that is not declared is left out.
+//! - `run_text_law`: the commits of a run have lines, and what is printed has names. `start_law`: which processes have
+//!   started.
 #![tactic(auto)]
 
 ghost use Rattle.std.specs.Prelude.{◌≡◌, ◌+◌, ◌*◌, ◌≤◌, IfOk, IfErr, length, map};
 ghost use Rattle.std.specs.List.{AllByRecursion};
 ghost use Rattle.journal_text.specs.Answers.{Explains};
-ghost use Rattle.journal_text.specs.Journals.{HasLine, Spells, SpellsOnlyOne, SpellsOrIsBad, HasOneFirstBadLine};
+ghost use Rattle.journal_text.specs.Journals.{HasLine, Spells};
 ghost use Rattle.journal_text.specs.Labels.{naming_of, reach};
 ghost use Rattle.journal_text.specs.Names.{names_of, numbers};
 ghost use Rattle.journal_text.specs.Texts.{commits_text};
@@ -19,6 +21,7 @@ ghost use Rattle.journal_text.specs.declared.JournalFault.TheVariants.{Memory};
 ghost use Rattle.script.specs.Scripts.{script_of};
 
 mod labels;
+mod laws;
 mod line;
 mod listing;
 mod name;
@@ -27,6 +30,7 @@ mod value;
 mod writing;
 
 use crate::labels::Labels;
+pub use crate::laws::{journal_text_laws, run_text_law, start_law};
 use crate::line::Front;
 pub use crate::name::{push_channel, push_nack, push_thread};
 use crate::names::Names;
@@ -139,11 +143,3 @@ pub fn read_journal(
     }
     Ok(commits)
 }
-
-/// In the names of a script, bytes spell one list of commits at most, or else one line is their first bad
-/// one: so each answer of `read_journal` but for want of memory is the only one.
-pub fn journal_text_laws()
-    ensures one { SpellsOnlyOne }
-    ensures apart { SpellsOrIsBad }
-    ensures first { HasOneFirstBadLine }
-{}

@@ -5,8 +5,8 @@ use Rattle.script.specs.declared.fault.ScriptFault.{ScriptFault}
 use Rattle.script.specs.declared.fault.ScriptFault.TheVariants as scripts
 use Rattle.journal_text.specs.declared.JournalFault.{JournalFault}
 use Rattle.journal_text.specs.declared.JournalFault.TheVariants as journals
-use Rattle.pcml_need.specs.declared.NamesFault.{NamesFault}
-use Rattle.pcml_need.specs.declared.NamesFault.TheVariants as names
+use Rattle.pcml_answers.specs.declared.need.NamesFault.{NamesFault}
+use Rattle.pcml_answers.specs.declared.need.NamesFault.TheVariants as names
 use Rattle.pcml_check_c.specs.declared.answer.Answer.{Answer}
 use Rattle.pcml_check_c.specs.declared.told.Code.{Code}
 use Rattle.pcml_check_c.specs.declared.told.Code.TheVariants.{Done, NoScript, Open, Stuck, Unlawful}

@@ -5,8 +5,8 @@ use Rattle.script.specs.FirstFaults.{Tells}
 use Rattle.script.specs.Sources.{Script}
 use Rattle.script.specs.Spelling.{Spells}
 use Rattle.journal_text.specs.Journals.{IsFirstBadLine}
-use Rattle.pcml_need.specs.Needs.{MisnamesAny}
-use Rattle.pcml_need.specs.declared.NamesFault.TheVariants as names
+use Rattle.pcml_answers.specs.Needs.{MisnamesAny}
+use Rattle.pcml_answers.specs.declared.need.NamesFault.TheVariants as names
 use Rattle.pcml_request.specs.declared.request.Form.{Form}
 use Rattle.pcml_request.specs.declared.request.Form.TheVariants.{Mermaid, Svg}
 use Rattle.pcml_texts.specs.Chart.{IsCharted}

@@ -7,12 +7,12 @@ use Rattle.script.specs.Spelling.{Spells}
 use Rattle.journal_text.specs.Names.{named}
 use Rattle.outcomes.specs.declared.asked.Asked.{Asked}
 use Rattle.outcomes.specs.declared.Outcomes.{Outcomes}
-use Rattle.pcml_need.specs.declared.NamesFault.{NamesFault}
-use Rattle.pcml_need.specs.declared.NamesFault.TheVariants as names
+use Rattle.pcml_answers.specs.declared.need.NamesFault.{NamesFault}
+use Rattle.pcml_answers.specs.declared.need.NamesFault.TheVariants as names
 use Rattle.pcml_request.specs.declared.request.Wanted.{Wanted}
-use Rattle.pcml_outcomes.specs.Told.{AreFound, NamesNeeded, finding, outcomes_text}
-use Rattle.pcml_outcomes.specs.declared.finding.Finding.{Finding}
-use Rattle.pcml_outcomes.specs.declared.finding.Finding.TheVariants as findings
+use Rattle.pcml_answers.specs.Told.{AreFound, NamesNeeded, finding, outcomes_text}
+use Rattle.pcml_answers.specs.declared.finding.Finding.{Finding}
+use Rattle.pcml_answers.specs.declared.finding.Finding.TheVariants as findings
 use Rattle.pcml_texts.specs.Searching.{IsAskedOf, MisnamesAsked}
 use Rattle.pcml_check_c.specs.Names.{Wants, given}
 use Rattle.pcml_check_c.specs.declared.told.Code.{Code}

@@ -2,7 +2,7 @@
 use Rattle.std.specs.Prelude.{◌≡◌, ℕ, List, None, Some, codes}
 use Rattle.script.specs.FirstFaults.{Tells}
 use Rattle.pcml_texts.specs.Check.{IsChecked}
-use Rattle.pcml_why_script.specs.Telling.{TellsWhyNot}
+use Rattle.script_mistakes.specs.Telling.{TellsWhyNot}
 use Rattle.pcml_check_c.specs.declared.told.Code.{Code}
 use Rattle.pcml_check_c.specs.declared.told.Code.TheVariants.{Done, NoScript}
 use Rattle.pcml_check_c.specs.declared.told.Told.{Told}

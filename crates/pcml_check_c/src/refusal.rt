@@ -5,7 +5,7 @@ ghost use Rattle.pcml_check_c.specs.Answers.{code_of_refusal, fault_of, fault_of
 ghost use Rattle.pcml_check_c.specs.declared.refusal.Refusal.TheVariants.{Memory, Script};
 
 use journal_text::JournalFault;
-use pcml_need::NamesFault;
+use pcml_answers::NamesFault;
 use script::ScriptFault;
 use std::alloc::AllocError;
 

@@ -6,7 +6,7 @@ ghost use Rattle.pcml_check_c.specs.Scripts.{IsCounted, IsExplained, RefusesMemo
 use crate::refusal::Refusal;
 use crate::told::{Code, Told};
 use pcml_texts::check_text;
-use pcml_why_script::why_not;
+use script_mistakes::why_not;
 use std::alloc::Global;
 
 /// How many processes and channels the script has.

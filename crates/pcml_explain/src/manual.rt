@@ -1,4 +1,4 @@
-//! The manual page, which `docs/manual --write` writes here from `docs/pcml.1`.
+//! The manual page, which `tools/manual --write` writes here from `docs/pcml.1`.
 
 /// The page as text of at most 79 columns.
 pub(crate) const PAGE: &str =

@@ -6,7 +6,7 @@ use Rattle.std.proofs.lemmas.Option.{none-some, same_Some}
 use Rattle.pcml_texts.specs.Searching.{either}
 use Rattle.std.proofs.lemmas.List.{length-map, length-replicate}
 use Rattle.script.specs.Sources.{Script}
-use Rattle.pcml_need.specs.Needs.{are_in, is_in, named_by, named_or_all, names_all}
+use Rattle.pcml_answers.specs.Needs.{are_in, is_in, named_by, named_or_all, names_all}
 
 either-way : (s : Script) (names : List ℕ) (b : Bool) → length (if b then replicate (length s.processes) true else are_in s names) ≡ length s.processes
 either-way s names true = length-replicate (length s.processes) true

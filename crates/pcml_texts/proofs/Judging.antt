@@ -8,7 +8,7 @@ use Rattle.journal_text.proofs.Journals.{spells_only_one}
 use Rattle.journal_replay.specs.Runs.{BreaksOffAt, Config, config_of}
 use Rattle.journal_replay.proofs.Fronts.{breaks-not-run, breaks-once}
 use Rattle.journal_replay.proofs.Telling.{ends-one}
-use Rattle.pcml_outcomes.specs.Standings.{Standing, StandAs, process_lines}
+use Rattle.pcml_answers.specs.Standings.{Standing, StandAs, process_lines}
 use Rattle.pcml_texts.specs.Replay.{IsAt, IsReplayedToOne, IsReplayedOrNoRun, HasOneUnlawfulLine, lawful_line, unlawful_line}
 use Rattle.journal_text.specs.Names.{named}
 

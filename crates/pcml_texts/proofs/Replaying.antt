@@ -10,9 +10,9 @@ use Rattle.journal_replay.specs.Replays.{StandsAfter, TellsEnabled, TellsEnd, Te
 use Rattle.journal_replay.specs.Runs.{config_of}
 use Rattle.journal_replay.specs.declared.state.State.{State}
 use Rattle.journal_replay.proofs.Telling.{ends-both}
-use Rattle.pcml_outcomes.specs.Standings.{Standing, StandAs}
+use Rattle.pcml_answers.specs.Standings.{Standing, StandAs}
 use Rattle.pcml_texts.specs.Replay.{TellsStanding, TellsProcesses, TellsState, IsAt, IsReplayed}
-use Rattle.pcml_outcomes.proofs.Lines.{LinesTo}
+use Rattle.pcml_answers.proofs.Lines.{LinesTo}
 
 -- PROCESS BY PROCESS
 

@@ -8,9 +8,9 @@ use Rattle.journal_replay.specs.Replays.{StandsAfter}
 use Rattle.journal_replay.specs.declared.state.State.{State}
 use Rattle.pcml_chart.specs.Chart.{IsChart}
 use Rattle.pcml_chart.specs.Mermaid.{IsMermaid}
-use Rattle.pcml_need.specs.Needs.{MisnamesAny, named_or_all, unnamed_of}
-use Rattle.pcml_need.specs.declared.NamesFault.{NamesFault}
-use Rattle.pcml_need.specs.declared.NamesFault.TheVariants as names
+use Rattle.pcml_answers.specs.Needs.{MisnamesAny, named_or_all, unnamed_of}
+use Rattle.pcml_answers.specs.declared.need.NamesFault.{NamesFault}
+use Rattle.pcml_answers.specs.declared.need.NamesFault.TheVariants as names
 use Rattle.pcml_request.specs.declared.request.Form.{Form}
 use Rattle.pcml_request.specs.declared.request.Form.TheVariants.{Mermaid, Svg}
 use Rattle.pcml_texts.specs.Replay.{IsNoRun, unlawful_line}

@@ -11,7 +11,7 @@ use Rattle.journal_text.specs.Names.{Naming, named}
 use Rattle.journal_replay.specs.Replays.{StandsAfter, TellsEnd, TellsOutput, thread_count}
 use Rattle.journal_replay.specs.Runs.{BreaksOffAt, Config, IsLegal, IsMaximal, IsRun, config_of}
 use Rattle.journal_replay.specs.declared.state.State.{State}
-use Rattle.pcml_outcomes.specs.Standings.{Standing, StandAs, process_lines}
+use Rattle.pcml_answers.specs.Standings.{Standing, StandAs, process_lines}
 use Rattle.pcml_texts.specs.declared.reach.Reached.{Reached}
 use Rattle.pcml_texts.specs.declared.reach.Reached.TheVariants.{Run, NoRun}
 use Rattle.pcml_texts.specs.declared.replay.Judged.{Judged}

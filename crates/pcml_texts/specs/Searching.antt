@@ -6,9 +6,9 @@ use Rattle.script.specs.Sources.{Script}
 use Rattle.outcomes.specs.declared.asked.Asked.{Asked}
 use Rattle.outcomes.specs.declared.asked.Told.{Told}
 use Rattle.outcomes.specs.declared.asked.Told.TheVariants as told
-use Rattle.pcml_need.specs.Needs.{MisnamesAny, Names, NamesOrAll, named_or_all, unnamed_of}
-use Rattle.pcml_need.specs.declared.NamesFault.{NamesFault}
-use Rattle.pcml_need.specs.declared.NamesFault.TheVariants as names
+use Rattle.pcml_answers.specs.Needs.{MisnamesAny, Names, NamesOrAll, named_or_all, unnamed_of}
+use Rattle.pcml_answers.specs.declared.need.NamesFault.{NamesFault}
+use Rattle.pcml_answers.specs.declared.need.NamesFault.TheVariants as names
 use Rattle.pcml_request.specs.declared.request.Wanted.{Wanted}
 use Rattle.pcml_request.specs.declared.request.Wanted.TheVariants.{Each, Lacking, Waiting}
 

@@ -5,7 +5,7 @@ use Rattle.script.specs.Sources.{Script}
 use Rattle.journal_text.specs.Journals.{Spells}
 use Rattle.journal_text.specs.Names.{named}
 use Rattle.journal_replay.specs.Runs.{IsRun}
-use Rattle.pcml_stats.specs.Stats.{stats_text}
+use Rattle.pcml_answers.specs.Stats.{stats_text}
 use Rattle.pcml_texts.specs.Replay.{IsNoRun}
 use Rattle.pcml_texts.specs.declared.replay.Replayed.{Replayed}
 use Rattle.pcml_texts.specs.declared.replay.Replayed.TheVariants.{Lawful, Unlawful}

@@ -10,9 +10,9 @@ use Rattle.journal_replay.specs.Replays.{StandsAfter}
 use Rattle.journal_replay.specs.Runs.{BreaksOffAt}
 use Rattle.journal_replay.specs.declared.state.State.{State}
 use Rattle.pcml_why.specs.Whys.{IsWhy}
-use Rattle.pcml_unlawful.specs.Reasons.{IsReasonAt}
-use Rattle.pcml_unlawful.specs.Texts.{reason_text}
-use Rattle.pcml_unlawful.specs.declared.reason.Reason.{Reason}
+use Rattle.pcml_answers.specs.Reasons.{IsReasonAt}
+use Rattle.pcml_answers.specs.Texts.{reason_text}
+use Rattle.pcml_answers.specs.declared.reason.Reason.{Reason}
 use Rattle.pcml_texts.specs.Replay.{unlawful_line}
 use Rattle.pcml_texts.specs.declared.reach.Reached.{Reached}
 use Rattle.pcml_texts.specs.declared.reach.Reached.TheVariants.{Run, NoRun}

@@ -10,8 +10,8 @@ ghost use Rattle.pcml_texts.specs.declared.chart.ChartFault.TheVariants.{Memory}
 use crate::reach::{Reached, reach};
 use journal_replay::State;
 use journal_text::JournalFault;
+use pcml_answers::{NamesFault, named_or_all};
 use pcml_chart::{chart_text, mermaid_text};
-use pcml_need::{NamesFault, named_or_all};
 use pcml_request::Form;
 use protocol_values::Commit;
 use script::Script;

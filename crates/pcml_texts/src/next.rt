@@ -8,7 +8,7 @@ ghost use Rattle.pcml_texts.specs.Next.{TellsNextOf};
 use crate::reach::{Reached, reach};
 use crate::replay::Replayed;
 use journal_text::JournalFault;
-use pcml_outcomes::next_text;
+use pcml_answers::next_text;
 use script::Script;
 use std::alloc::Global;
 

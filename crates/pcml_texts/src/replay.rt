@@ -12,7 +12,7 @@ ghost use Rattle.script.specs.Appending.{Adds};
 use crate::reach::{Reached, reach};
 use journal_replay::State;
 use journal_text::JournalFault;
-use pcml_outcomes::push_process;
+use pcml_answers::push_process;
 use script::Script;
 use std::alloc::{AllocError, Global};
 

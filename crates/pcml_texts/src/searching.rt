@@ -5,11 +5,11 @@ ghost use Rattle.std.specs.List.{zip};
 ghost use Rattle.std.specs.Option.{option_copied};
 ghost use Rattle.script.specs.Scripts.{script_of};
 ghost use Rattle.outcomes.specs.declared.asked.Told.{Told as WhichTold};
-ghost use Rattle.pcml_outcomes.specs.Told.{NamesNeeded};
+ghost use Rattle.pcml_answers.specs.Told.{NamesNeeded};
 ghost use Rattle.pcml_texts.specs.Searching.{IsAskedOf, MisnamesAsked};
 
 use outcomes::{Asked, Told};
-use pcml_need::{NamesFault, named_or_all, named_processes};
+use pcml_answers::{NamesFault, named_or_all, named_processes};
 use pcml_request::Wanted;
 use script::Script;
 use std::alloc::{AllocError, Global};

@@ -8,7 +8,7 @@ ghost use Rattle.pcml_texts.specs.Stats.{TellsStats};
 use crate::reach::{Reached, reach};
 use crate::replay::Replayed;
 use journal_text::JournalFault;
-use pcml_stats::stats_text;
+use pcml_answers::stats_text;
 use script::Script;
 use std::alloc::Global;
 

@@ -18,7 +18,7 @@ use crate::reach::{Reached, reach};
 use crate::replay::Replayed;
 use journal_replay::{ReplayFault, State, replay};
 use journal_text::JournalFault;
-use pcml_unlawful::{find_reason, push_reason};
+use pcml_answers::{find_reason, push_reason};
 use pcml_why::why_text;
 use protocol_values::Commit;
 use script::Script;

@@ -12,7 +12,7 @@ use Rattle.script.specs.Spelling.{IsSpelled}
 use Rattle.runtime.specs.Headline.{TellsFreeRun, TellsMaximalRun}
 use Rattle.runtime.specs.Played.{ArePlayedWithin}
 use Rattle.runtime.specs.Limits.{AreRows, AreSeasons, AreWorkers}
-use Rattle.journal_lines.proofs.Lining.{printed_has_names, run_is_read_again}
+use Rattle.journal_text.proofs.Lining.{printed_has_names, run_is_read_again}
 use Rattle.pcml_tool.specs.Run.{AreEnds, TellsFreelyOf, TellsRecord, TellsRunOf}
 
 are_ends : (s : Script) (r : Record) (lines rest : List ℕ) (told : TellsRecord s r lines rest) → AreEnds told.standing r.ends.items

@@ -10,8 +10,8 @@ use Rattle.pcml_request.specs.declared.request.Running.{Running}
 use Rattle.pcml_request.specs.declared.request.Search.{Search}
 use Rattle.pcml_request.specs.Requests.{all_rows}
 use Rattle.pcml_explain.specs.Topics.{Explains}
-use Rattle.pcml_need.specs.Needs.{MisnamesAny, Names}
-use Rattle.pcml_need.specs.declared.NamesFault.TheVariants as names
+use Rattle.pcml_answers.specs.Needs.{MisnamesAny, Names}
+use Rattle.pcml_answers.specs.declared.need.NamesFault.TheVariants as names
 use Rattle.pcml_files.specs.Files.{Fits, IsTooLarge}
 use Rattle.pcml_tool.specs.Meet.{PrintsMeeting}
 use Rattle.pcml_tool.specs.declared.fault.Fault.{Fault}
@@ -39,10 +39,10 @@ use Rattle.journal_text.specs.Names.{named}
 use Rattle.outcomes.specs.declared.Outcomes.{Outcomes as Found}
 use Rattle.outcomes.specs.declared.asked.Asked.{Asked}
 use Rattle.outcomes.specs.Asking.{has_unended}
-use Rattle.pcml_outcomes.specs.Told.{AreFound, NamesNeeded, SpellsAsked, asked_for, finding, outcomes_text}
+use Rattle.pcml_answers.specs.Told.{AreFound, NamesNeeded, SpellsAsked, asked_for, finding, outcomes_text}
 use Rattle.pcml_tool.specs.Searching.{FailsAsked, IsAskedBy, verdict_of}
-use Rattle.pcml_why_script.specs.Short.{TellsWhyShort}
-use Rattle.pcml_why_script.specs.Telling.{TellsWhyNot}
+use Rattle.script_mistakes.specs.Short.{TellsWhyShort}
+use Rattle.script_mistakes.specs.Telling.{TellsWhyNot}
 use Rattle.script.specs.Sources.{Script}
 use Rattle.script.specs.Spelling.{Spells}
 use Rattle.script.specs.FirstFaults.{Tells}

@@ -16,8 +16,8 @@ use Rattle.script.specs.declared.fault.ScriptFault.{ScriptFault}
 use Rattle.script.specs.declared.fault.ScriptFault.TheVariants as scripts
 use Rattle.pcml_texts.specs.declared.chart.ChartFault.{ChartFault}
 use Rattle.pcml_texts.specs.declared.chart.ChartFault.TheVariants as charts
-use Rattle.pcml_need.specs.declared.NamesFault.{NamesFault}
-use Rattle.pcml_need.specs.declared.NamesFault.TheVariants as names
+use Rattle.pcml_answers.specs.declared.need.NamesFault.{NamesFault}
+use Rattle.pcml_answers.specs.declared.need.NamesFault.TheVariants as names
 use Rattle.pcml_tool.specs.declared.fault.Fault.{Fault}
 use Rattle.pcml_tool.specs.declared.fault.Fault.TheVariants as faults
 

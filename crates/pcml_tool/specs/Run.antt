@@ -15,7 +15,7 @@ use Rattle.journal_replay.specs.declared.end.End.TheVariants.{Spent}
 use Rattle.runtime.specs.Headline.{IsFreeRun, IsMaximalRun}
 use Rattle.runtime.specs.Played.{ArePlayedWithin}
 use Rattle.journal.specs.declared.record.Record.{Record}
-use Rattle.pcml_outcomes.specs.Standings.{Standing, AreStandings, StandAs, process_lines}
+use Rattle.pcml_answers.specs.Standings.{Standing, AreStandings, StandAs, process_lines}
 
 -- the last line: how many commits there are, and how many of them the workers left to be added
 abbrev pub tail_line : ℕ → ℕ → List ℕ

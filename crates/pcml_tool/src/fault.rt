@@ -7,8 +7,8 @@ ghost use Rattle.pcml_tool.specs.declared.fault.Fault.TheVariants.{Memory, Unwri
 
 use crate::{ChartFault, MeetFault, PlayFault};
 use journal_text::JournalFault;
+use pcml_answers::NamesFault;
 use pcml_files::{SourceFault, Unwritten};
-use pcml_need::NamesFault;
 use runtime::{RunFault, SeasonFault};
 use script::ScriptFault;
 use std::alloc::AllocError;

@@ -19,8 +19,8 @@ use crate::{
 };
 use pcml_files::{MOST_BYTES, Source};
 use pcml_request::Form;
-use pcml_why_script::{why_not, why_short};
 use script::{Script, parse};
+use script_mistakes::{why_not, why_short};
 use std::alloc::Global;
 
 /// What an answer says of its request.

@@ -26,9 +26,8 @@ use crate::{
 };
 use journal_replay::End;
 use outcomes::{Watch, has_unended};
+use pcml_answers::{named_processes, outcomes_text};
 use pcml_files::{MOST_BYTES, Source, emit};
-use pcml_need::named_processes;
-use pcml_outcomes::outcomes_text;
 use pcml_request::{Request, Running, Search, WordsFault, read_words};
 use protocol_values::Commit;
 use script::Script;

@@ -12,12 +12,12 @@ ghost use Rattle.runtime.specs.Played.{NeedsSeasons};
 ghost use Rattle.runtime_run.specs.declared.fault.RunFault.TheVariants.{Workers, Rows};
 ghost use Rattle.runtime.specs.declared.seasons.SeasonFault.TheVariants as faults;
 ghost use Rattle.pcml_tool.specs.Run.{tail_line, IsRan, TellsFreelyOf, TellsRecord, TellsRunOf};
-ghost use Rattle.pcml_outcomes.specs.Standings.{TellsStandings};
+ghost use Rattle.pcml_answers.specs.Standings.{TellsStandings};
 
 use journal::Record;
 use journal_replay::End;
 use journal_text::write_journal;
-use pcml_outcomes::standing_lines;
+use pcml_answers::standing_lines;
 use protocol_values::Commit;
 use runtime::{OpenGate, RunFault, SeasonFault, run, run_seasons};
 use script::Script;

@@ -2,7 +2,7 @@ use Rattle.std.proofs.Common.{◌≡◌, List, Bool, ap, length, subst, ◌∙�
 use Rattle.std.specs.Option.{option_copied}
 use Rattle.script.specs.Scripts.{script_of}
 use Rattle.protocol_values.specs.declared.Commit.{Commit}
-use Rattle.pcml_need.specs.Needs.{named_or_all}
+use Rattle.pcml_answers.specs.Needs.{named_or_all}
 use Rattle.pcml_texts.specs.Chart.{Draws}
 use Rattle.pcml_texts.specs.Replay.{LeadsTo, Reaches}
 use Rattle.pcml_texts.specs.declared.reach.Reached.{Reached}

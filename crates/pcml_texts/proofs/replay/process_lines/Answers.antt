@@ -1,7 +1,7 @@
 use Rattle.std.proofs.Common.{refl}
 use Rattle.std.specs.String.{string_bytes}
 use Rattle.script.specs.Scripts.{script_of}
-use Rattle.pcml_outcomes.proofs.Lines.{one_line}
+use Rattle.pcml_answers.proofs.Lines.{one_line}
 use Rattle.pcml_texts.proofs.Replaying.{TellsOne}
 use Rattle.journal_text.specs.Names.{named}
 use Rattle.pcml_texts.proofs.replay.process_lines.Goals as goal

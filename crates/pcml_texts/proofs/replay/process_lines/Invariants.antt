@@ -1,6 +1,6 @@
 use Rattle.std.specs.String.{string_bytes}
 use Rattle.script.specs.Scripts.{script_of}
-use Rattle.pcml_outcomes.proofs.Lines.{LinesTo}
+use Rattle.pcml_answers.proofs.Lines.{LinesTo}
 use Rattle.pcml_texts.proofs.Replaying.{TellsOne}
 use Rattle.journal_text.specs.Names.{named}
 use Rattle.pcml_texts.proofs.replay.process_lines.Given as goal

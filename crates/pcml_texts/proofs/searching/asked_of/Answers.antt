@@ -4,7 +4,7 @@ use Rattle.std.specs.Option.{option_copied}
 use Rattle.script.specs.Scripts.{script_of}
 use Rattle.outcomes.specs.declared.asked.Told.{Told}
 use Rattle.outcomes.specs.declared.asked.Told.TheVariants.{Lacking}
-use Rattle.pcml_need.specs.Needs.{named_or_all}
+use Rattle.pcml_answers.specs.Needs.{named_or_all}
 use Rattle.pcml_request.specs.declared.request.Wanted.{Wanted}
 use Rattle.pcml_texts.specs.Searching.{Asks, either}
 use Rattle.pcml_texts.proofs.Columns.{each-column, each-either, each-named, either-second}

@@ -2,7 +2,7 @@ use Rattle.std.proofs.Common.{List, ap, subst, ◌∙◌}
 use Rattle.script.specs.Scripts.{script_of}
 use Rattle.protocol_values.specs.declared.Commit.{Commit}
 use Rattle.journal_text.specs.Names.{named}
-use Rattle.pcml_stats.specs.Stats.{stats_text}
+use Rattle.pcml_answers.specs.Stats.{stats_text}
 use Rattle.pcml_texts.specs.Replay.{LeadsTo, Reaches}
 use Rattle.pcml_texts.specs.declared.reach.Reached.{Reached}
 use Rattle.pcml_texts.proofs.stats.stats_journal.Goals as goal

@@ -1,7 +1,7 @@
 use Rattle.std.proofs.Common.{◌≡◌, inl, inr, ℕ, List, length, Option, Some, None, ap, subst, arith}
 use Rattle.std.specs.Option.{option_map}
 use Rattle.pcml_files.specs.Files.{IsReadOf}
-use Rattle.pcml_why_script.specs.Telling.{TellsWhyNot}
+use Rattle.script_mistakes.specs.Telling.{TellsWhyNot}
 use Rattle.pcml_tool.proofs.Wholes.{take_shorter, with_ok}
 use Rattle.pcml_tool.proofs.from_files.why_file.Goals as goal
 

@@ -4,7 +4,7 @@ use Rattle.journal_replay.specs.Runs.{IsRun}
 use Rattle.journal_replay.specs.declared.end.End.{End}
 use Rattle.pcml_tool.specs.Run.{TellsRunOf}
 use Rattle.script.specs.Scripts.{script_of}
-use Rattle.journal_lines.proofs.Lining.{run_has_lines}
+use Rattle.journal_text.proofs.Lining.{run_has_lines}
 use Rattle.pcml_tool.proofs.Running.{tells_run, rows_are_few}
 use Rattle.pcml_tool.proofs.run.run_parts.Goals as goal
 

@@ -7,7 +7,7 @@ use Rattle.std.specs.Global.{Global}
 use Rattle.std.proofs.lemmas.List.{length-map}
 use Rattle.protocol_values.specs.declared.Atom.{Atom}
 use Rattle.script.specs.Scripts.{script_of}
-use Rattle.journal_lines.proofs.Lining.{run_has_lines}
+use Rattle.journal_text.proofs.Lining.{run_has_lines}
 use Rattle.pcml_tool.proofs.Running.{in_ranges, tells_freely}
 use Rattle.pcml_tool.proofs.run.run_seasons_parts.Goals as goal
 

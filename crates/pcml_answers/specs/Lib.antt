@@ -1,0 +1,10 @@
+pub mod Needs
+pub mod Counts
+pub mod Stats
+pub mod Tallies
+pub mod Reasons
+pub mod Telling
+pub mod Texts
+pub mod Standings
+pub mod Told
+pub mod Coming

@@ -1,0 +1,202 @@
+-- What is told of the outcomes that were found.
+use Rattle.std.specs.Prelude.{◌≡◌, ◌≢◌, ◌≤◌, ◌-◌, ◌==◌, ◌&&◌, not, if◌then◌else◌, ℕ, Bool, true, false, List, [], ◌∷◌, ◌++◌, length, codes, Contains, Option, None, Some, IfSome, slice_get, ⊤}
+use Rattle.std.specs.Fmt.{decimal}
+use Rattle.std.specs.List.{AllByRecursion, enumerate_from, filter, find, flat_map, list_any, zip}
+use Rattle.std.specs.Global.{Vec}
+use Rattle.std.specs.Option.{option_map}
+use Rattle.protocol_values.specs.declared.Atom.{Atom}
+use Rattle.protocol_values.specs.declared.Commit.{Commit}
+use Rattle.script.specs.Sources.{Script}
+use Rattle.journal_text.specs.Journals.{HasLine, Spells}
+use Rattle.journal_text.specs.Names.{Naming, named, names_of}
+use Rattle.journal_replay.specs.declared.end.End.{End}
+use Rattle.journal_replay.specs.declared.end.End.TheVariants.{Ended, Spent, Waiting}
+use Rattle.outcomes.specs.Asking.{is_told, marked}
+use Rattle.outcomes.specs.Outcomes.{AreAll, AreDifferent, AreOutcomes, AreVisited, CanSpend, LeadsTo, StopsAtFirst, ends_in, ends_of_all, outputs_in}
+use Rattle.outcomes.specs.declared.Extent.{Extent}
+use Rattle.outcomes.specs.declared.Extent.TheVariants.{Cut, First, Whole}
+use Rattle.outcomes.specs.declared.asked.Asked.{Asked}
+use Rattle.outcomes.specs.declared.asked.Told.{Told}
+use Rattle.outcomes.specs.declared.asked.Told.TheVariants.{Each, Lacking, Waiting as TheWaiting}
+use Rattle.outcomes.specs.declared.Outcome.{Outcome}
+use Rattle.outcomes.specs.declared.Outcomes.{Outcomes}
+use Rattle.pcml_answers.specs.Standings.{process_lines, standings}
+use Rattle.pcml_answers.specs.declared.finding.Finding.{Finding}
+use Rattle.pcml_answers.specs.declared.finding.Finding.TheVariants.{Clear, Open, Stuck}
+use Rattle.pcml_answers.specs.declared.listing.OutcomesText.{OutcomesText}
+
+-- WHICH OUTCOMES
+
+abbrev pub is_shown : Asked → Outcome → Bool
+is_shown asked o = is_told asked (ends_in o)
+
+-- those that are told, with their numbers among all, from 1
+abbrev pub shown : Asked → List Outcome → List (ℕ × Outcome)
+shown asked outcomes = filter (λ n. is_shown asked n.1) (enumerate_from 1 outcomes)
+
+-- THEIR TEXT
+
+abbrev pub outcome_line : ℕ → List ℕ
+outcome_line number = codes "outcome " ++ decimal number ++ 10 ∷ []
+
+-- the number of an outcome, and a line for each process that is named
+abbrev pub outcome_text : Naming → List Bool → ℕ × Outcome → List ℕ
+outcome_text names marks n = outcome_line n.0 ++ process_lines names (marked marks (standings (ends_in n.1) (outputs_in n.1)))
+
+-- whether that is all there is, and within how many syncs a process where some had none left
+abbrev pub extent_text : ℕ → Extent → Bool → List ℕ
+extent_text rows First bounded = codes "first"
+extent_text rows Cut bounded = codes "cut"
+extent_text rows Whole false = codes "all"
+extent_text rows Whole true = codes "all within " ++ decimal rows ++ codes " syncs"
+
+-- how many outcomes are told, how many configurations were seen, and whether that is all
+abbrev pub last_line : ℕ → ℕ → Outcomes → List ℕ
+last_line rows told found =
+    codes "outcomes " ++ decimal told ++ codes " configurations " ++ decimal found.visited ++ codes " " ++ extent_text rows found.extent found.is_bounded ++ 10 ∷ []
+
+abbrev pub outcomes_text : Naming → ℕ → Asked → Outcomes → List ℕ
+outcomes_text names rows asked found =
+    flat_map (outcome_text names asked.named.items) (shown asked found.outcomes.items) ++ last_line rows (length (shown asked found.outcomes.items)) found
+
+-- THE JOURNAL OF ONE
+
+-- a number from 1 on, where one is named
+abbrev pub IsNumber : Option ℕ → Type 0
+IsNumber of = IfSome of (λ number. 1 ≤ number)
+
+-- the outcome of a number, or where none is named the first that is told
+abbrev pub asked_for : Option ℕ → Asked → List Outcome → Option Outcome
+asked_for (Some number) asked outcomes = slice_get outcomes (number - 1)
+asked_for None asked outcomes = find (is_shown asked) outcomes
+
+-- the text of its journal, where there is such an outcome, and else none
+abbrev pub SpellsAsked : Script → Option Outcome → Option (List ℕ) → Type 0
+SpellsAsked s (Some o) (Some text) = Spells s text o.journal.items
+SpellsAsked s None None = ⊤
+SpellsAsked s asked text = ⊥
+
+-- the bytes of a text, where there is one
+abbrev pub bytes_of : Option (Vec ℕ) → Option (List ℕ)
+bytes_of text = option_map (λ v. v.items) text
+
+-- WHAT WAS FOUND
+
+-- The outcomes are some that the script's processes can come to, of so many rows each, and no two are alike in what is named. They are
+-- all where that is said; else so many configurations were seen as may be, or the first was found that is told. As many different
+-- configurations were seen as it says. And a process is said to be spent only where one can be, and where all was seen wherever one
+-- can.
+pub record AreFound (s : Script) (rows limit : ℕ) (asked : Asked) (found : Outcomes) : Type 0 where
+  pub outcomes : AreOutcomes s.processes rows found.outcomes.items
+  pub different : AreDifferent asked.named.items found.outcomes.items
+  pub all : found.extent ≡ Whole → AreAll s.processes rows asked.named.items found.outcomes.items
+  pub visited : AreVisited s.processes rows found.extent found.outcomes.items found.visited
+  pub few : found.visited ≤ limit
+  pub cut : found.extent ≡ Cut → found.visited ≡ limit
+  pub first : StopsAtFirst asked found.extent (ends_of_all found.outcomes.items)
+  pub bounded : found.is_bounded ≡ true → CanSpend s.processes rows
+  pub unbounded : found.extent ≡ Whole → found.is_bounded ≡ false → CanSpend s.processes rows → ⊥
+
+-- WHAT IT SAYS of what was asked
+
+-- such a process stands where it will never end: it waits, faulted or was never started
+abbrev pub is_stuck : End → Bool
+is_stuck Ended = false
+is_stuck Spent = false
+is_stuck end = true
+
+-- whether some process that has to end stands so
+abbrev pub has_stuck : Told → Outcome → Bool
+has_stuck (Lacking needed) o = list_any (λ p. p.1 && is_stuck p.0) (zip (ends_in o) needed.items)
+has_stuck told o = false
+
+abbrev pub is_whole : Extent → Bool
+is_whole Whole = true
+is_whole extent = false
+
+-- whether all was seen, and nothing is told; and where what waits was asked for, no process is spent either
+abbrev pub clears : Told → Bool → Bool → Bool
+clears Each nothing bounded = true
+clears TheWaiting nothing bounded = nothing && not bounded
+clears (Lacking needed) nothing bounded = nothing
+
+abbrev pub is_clear : Asked → Outcomes → Bool
+is_clear asked found = clears asked.told (is_whole found.extent && (length (shown asked found.outcomes.items) == 0)) found.is_bounded
+
+abbrev pub is_cut : Extent → Bool
+is_cut Cut = true
+is_cut extent = false
+
+abbrev pub finding : Asked → Outcomes → Finding
+finding asked found =
+    if list_any (has_stuck asked.told) found.outcomes.items then Stuck
+    else (if is_clear asked found then Clear else Open)
+
+-- the text of what was found, and of the journal of the outcome that is asked for
+pub record IsListed (s : Script) (rows : ℕ) (asked : Asked) (of : Option ℕ) (found : Outcomes) (t : OutcomesText) : Type 0 where
+  pub text : t.text.items ≡ outcomes_text (named s) rows asked found
+  pub journal : SpellsAsked s (asked_for of asked found.outcomes.items) (bytes_of t.journal)
+  pub finding_is : t.finding ≡ finding asked found
+  pub cut : t.is_cut ≡ is_cut found.extent
+
+-- the text of something that was found
+pub record TellsOutcomes (s : Script) (rows limit : ℕ) (asked : Asked) (of : Option ℕ) (t : OutcomesText) : Type 0 where
+  pub found : Outcomes
+  pub are : AreFound s rows limit asked found
+  pub is : IsListed s rows asked of found t
+
+-- OUTCOMES OF A SCRIPT
+
+-- an end and an output for each process
+pub record IsOf (s : Script) (o : Outcome) : Type 0 where
+  pub ends : length (ends_in o) ≡ length s.processes
+  pub outputs : length (outputs_in o) ≡ length s.processes
+
+abbrev pub AreOf : Script → List Outcome → Type 0
+AreOf s outcomes = (k : ℕ) (o : Outcome) → slice_get outcomes k ≡ Some o → IsOf s o
+
+-- the journal of each has lines in the script's names
+abbrev pub HaveLines : Script → List Outcome → Type 0
+HaveLines s outcomes = (k : ℕ) (o : Outcome) → slice_get outcomes k ≡ Some o → AllByRecursion (HasLine (names_of s)) o.journal.items
+
+-- LAWS
+
+-- of the process of this number these marks say yes
+abbrev pub IsMarked : List Bool → ℕ → Type 0
+IsMarked marks t = slice_get marks t ≡ Some true
+
+-- every process that has to end is named
+abbrev pub NamesNeeded : Asked → Type 0
+NamesNeeded asked = (needed : Vec Bool) → asked.told ≡ Lacking needed → (t : ℕ) → IsMarked needed.items t → IsMarked asked.named.items t
+
+-- where what waits was asked for and that is clear, no maximal run leaves a named process waiting, or any process spent
+abbrev pub ClearNeverWaits : Type 0
+ClearNeverWaits =
+    (s : Script) (rows limit : ℕ) (asked : Asked) (found : Outcomes) → AreFound s rows limit asked found → asked.told ≡ TheWaiting → finding asked found ≡ Clear
+    → (journal : List Commit) (ends : List End) (outputs : List (List Atom)) → LeadsTo s.processes rows journal ends outputs
+    → ((t : ℕ) → IsMarked asked.named.items t → slice_get ends t ≢ Some Waiting) × (Contains ends Spent → ⊥)
+
+-- where processes have to end and that is clear, they have ended behind every maximal run
+abbrev pub ClearAlwaysEnds : Type 0
+ClearAlwaysEnds =
+    (s : Script) (rows limit : ℕ) (asked : Asked) (found : Outcomes) (needed : Vec Bool) → AreFound s rows limit asked found → asked.told ≡ Lacking needed → NamesNeeded asked → finding asked found ≡ Clear
+    → (journal : List Commit) (ends : List End) (outputs : List (List Atom)) → LeadsTo s.processes rows journal ends outputs
+    → (t : ℕ) (end : End) → IsMarked needed.items t → slice_get ends t ≡ Some end → end ≡ Ended
+
+-- a maximal run leaves a process that has to end stuck
+pub record LeavesStuck (s : Script) (rows : ℕ) (needed : List Bool) : Type 0 where
+  pub journal : List Commit
+  pub ends : List End
+  pub outputs : List (List Atom)
+  pub leads : LeadsTo s.processes rows journal ends outputs
+  pub thread : ℕ
+  pub end : End
+  pub needed_is : IsMarked needed thread
+  pub ends_so : slice_get ends thread ≡ Some end
+  pub stuck : is_stuck end ≡ true
+
+-- where a process that has to end is said to be stuck, some maximal run leaves it so
+abbrev pub StuckIsLeft : Type 0
+StuckIsLeft =
+    (s : Script) (rows limit : ℕ) (asked : Asked) (found : Outcomes) (needed : Vec Bool) → AreFound s rows limit asked found → asked.told ≡ Lacking needed → finding asked found ≡ Stuck
+    → LeavesStuck s rows needed.items

@@ -1,0 +1,84 @@
+//! The text of all that a script can come to.
+
+ghost use Rattle.std.specs.Prelude.{◌≡◌, ◌≤◌, IfOk, length};
+ghost use Rattle.script.specs.Scripts.{script_of};
+ghost use Rattle.pcml_answers.specs.Told.{AreOf, ClearAlwaysEnds, ClearNeverWaits, HaveLines, IsListed, IsNumber, StuckIsLeft, TellsOutcomes};
+
+use crate::asked::journal_asked;
+use crate::finding::{Finding, is_cut, judge};
+use crate::shown::{count_shown, push_last_line, shown_lines};
+use outcomes::{Asked, Outcomes, Watch, find_outcomes};
+use script::Script;
+use std::alloc::{AllocError, Global};
+
+/// What is told of all that a script can come to.
+#[derive(Debug, Drop)]
+pub struct OutcomesText {
+    /// The lines of each outcome that is told, and the counts.
+    pub text: Vec<u8>,
+    /// The journal that leads to the outcome that is asked for, as text; none where there is no such outcome.
+    pub journal: Option<Vec<u8>>,
+    /// What was found of what was asked for.
+    pub finding: Finding,
+    /// Whether not all configurations were seen.
+    pub is_cut: bool,
+}
+
+/// What was found, as text.
+fn found_text(
+    alloc: Global,
+    script: &Script,
+    rows: u32,
+    found: &Outcomes,
+    asked: &Asked,
+    of: Option<u32>,
+) -> Result<OutcomesText, AllocError>
+    requires outcomes { AreOf (script_of script.now) found.now.outcomes.items }
+    requires lines { HaveLines (script_of script.now) found.now.outcomes.items }
+    requires marks { length asked.now.named.items ≡ length (script_of script.now).processes }
+    requires number { IsNumber of }
+    ensures { IfOk result (IsListed (script_of script.now) rows asked.now of found.now) }
+{
+    let outcomes = found.outcomes.as_slice();
+    let told = count_shown(outcomes, asked);
+    let mut text = shown_lines(alloc, script, outcomes, asked)?;
+    push_last_line(&mut text, rows, told, found)?;
+    let journal = journal_asked(alloc, script, outcomes, asked, of)?;
+    Ok(OutcomesText {
+        text: text.into_bytes(),
+        journal,
+        finding: judge(asked, found, told),
+        is_cut: is_cut(found.extent),
+    })
+}
+
+/// All that the script's processes can come to, of so many rows each, 1 to 67107840, as far as at most `limit`
+/// configurations show it, with the journal that leads to the outcome of the number `of`, from 1, or else to the
+/// first that is told. What makes an outcome, and which are told, is `asked`, whose marks are one for each process.
+pub fn outcomes_text<W: Watch>(
+    alloc: Global,
+    script: &Script,
+    rows: u32,
+    limit: usize,
+    asked: &Asked,
+    of: Option<u32>,
+    watch: &mut W,
+) -> Result<OutcomesText, AllocError>
+    requires rows { rows ≤ 67107840 }
+    requires limit { 1 ≤ limit }
+    requires marks { length asked.now.named.items ≡ length (script_of script.now).processes }
+    requires number { IsNumber of }
+    ensures { IfOk result (TellsOutcomes (script_of script.now) rows limit asked.now of) }
+{
+    let found = find_outcomes(alloc, script.processes(), rows, limit, asked, watch)?;
+    found_text(alloc, script, rows, &found, asked, of)
+}
+
+/// What a finding means. Where what waits was asked for and all is clear, no maximal run leaves a named process waiting,
+/// or any process spent. Where processes have to end and all is clear, they have ended behind every maximal run. Where
+/// one is said to be stuck, some maximal run leaves it so.
+pub fn outcomes_laws()
+    ensures waiting { ClearNeverWaits }
+    ensures ends { ClearAlwaysEnds }
+    ensures stuck { StuckIsLeft }
+{}

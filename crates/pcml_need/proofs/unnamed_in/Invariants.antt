@@ -1,6 +1,0 @@
-use Rattle.script.specs.Scripts.{script_of}
-use Rattle.pcml_need.proofs.Parts.{FindsLeft}
-use Rattle.pcml_need.proofs.unnamed_in.Given as goal
-
-abbrev pub invariant-loop-at : goal.invariant-loop-at
-invariant-loop-at l = FindsLeft (script_of l.script) l.names l.begun l.at

@@ -1,5 +1,0 @@
-pub mod Lines
-pub mod Showing
-pub mod Asking
-pub mod Following
-pub mod Clearing

@@ -1,3 +1,0 @@
-pub mod Pieces
-pub mod Steps
-pub mod Summing

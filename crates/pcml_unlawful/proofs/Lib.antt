@@ -1,5 +1,0 @@
-mod Counting
-mod Needing
-mod Rows
-mod Breaking
-mod Refusing

@@ -1,3 +1,0 @@
-pub mod Reasons
-pub mod Telling
-pub mod Texts

@@ -1,4 +1,0 @@
-pub mod Places
-pub mod Words
-pub mod Short
-pub mod Telling
