@@ -1,6 +1,7 @@
 //! A run in seasons: the workers' seasons one after another, and the commits of all of them led on to their end together.
 
 ghost use Rattle.std.specs.Prelude.{◌≡◌, ◌≢◌, ◌↔◌, ◌*◌, ◌≤◌, Err, IfErr, IfOk, IfSome, IsTrue, List, length};
+ghost use Rattle.protocol_values.specs.Commits.{most_rows};
 ghost use Rattle.protocol_values.specs.declared.Commit.{Commit};
 ghost use Rattle.script.specs.Lines.{trees_of_script};
 ghost use Rattle.script.specs.Scripts.{script_of};
@@ -62,7 +63,7 @@ fn led_on(
     commits: Vec<Commit>,
     standing: Option<Standing>,
 ) -> Result<Record, AllocError>
-    requires rows { rows ≤ 67107840 }
+    requires rows { rows ≤ most_rows }
     requires run { EndsRun (script_of script.now).processes rows commits.items standing }
     ensures completes { IfOk result (CompletesRun (script_of script.now).processes rows commits.items) }
     ensures trees { IfOk result (λ r. EndRuns (trees_of_script script.now) standing → trees_in r.state ≡ trees_of_script script.now) }
@@ -75,7 +76,7 @@ fn led_on(
 }
 
 /// The record of a run without a limit on syncs, of these commits of all seasons, which are a run. The rows are those of
-/// all seasons, 1 to 67107840.
+/// all seasons, 1 to `MOST_ROWS`.
 ///
 /// It is refused where memory ran out, and where a process, behind what was added, stands at a sync with as many
 /// results as there are rows.
@@ -86,7 +87,7 @@ pub(crate) fn concluded(
     commits: Vec<Commit>,
     standing: Option<Standing>,
 ) -> Result<Record, SeasonFault>
-    requires rows { rows ≤ 67107840 }
+    requires rows { rows ≤ most_rows }
     requires run { EndsRun (script_of script.now).processes rows commits.items standing }
     ensures headline { IfOk result (TellsFreeRun (script_of script.now).processes) }
     ensures completes { IfOk result (CompletesRun (script_of script.now).processes rows commits.items) }

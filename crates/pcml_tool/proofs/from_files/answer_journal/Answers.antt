@@ -18,7 +18,15 @@ returns-clause-done g c =
     let found = c.in_ok-text.ensures.read in
     let has = c.in_ok-journal.ensures.read in
     let asked = c.args.asked in
-    let told = c.in_ok-told.told in
-    (source, found.0, s, found.1, read, c.read_source.ensures.kept asked.journal.now read has.0, has.1, told,
-    subst (λ (z : List ℕ × List ℕ × ℕ). TellsOf asked.question s z.0 z.2 z.1 told) (λ i. (c.deref.ensures.value i, c.deref-2.ensures.value i, c.all_rows-rows.ensures.value i)) c.in_ok-told.ensures.told,
-    c.judged.ensures)
+    let told = c.in_ok-told.told in (
+      source,
+      found.0,
+      s,
+      found.1,
+      read,
+      c.read_source.ensures.kept asked.journal.now read has.0,
+      has.1,
+      told,
+      subst (λ (z : List ℕ × List ℕ × ℕ). TellsOf asked.question s z.0 z.2 z.1 told) (λ i. (c.deref.ensures.value i, c.deref-2.ensures.value i, c.all_rows-rows.ensures.value i)) c.in_ok-told.ensures.told,
+      c.judged.ensures,
+    )
