@@ -23,7 +23,7 @@ mod waiters;
 pub use crate::end::End;
 pub use crate::gathering::{gather, retrace};
 pub use crate::placed::is_placed;
-pub use crate::runs::{replay, restamp, settle};
+pub use crate::runs::{replay, replay_lawful, restamp, settle};
 pub use crate::state::{ReplayFault, State};
 pub use crate::strand::Known;
 pub use crate::threads::spawners;

@@ -1,11 +1,12 @@
 //! Runs, replayed commit by commit and led on to their end.
 
-ghost use Rattle.std.specs.Prelude.{◌≡◌, ◌≤◌, IfOk, length, map, MatchResult};
+ghost use Rattle.std.specs.Prelude.{◌≡◌, ◌≤◌, ◌⊎◌, IfOk, length, map, take, MatchResult};
 ghost use Rattle.protocol_values.specs.Commits.{most_rows};
 ghost use Rattle.script_tree.specs.Processes.{proc_of, tree_of};
 ghost use Rattle.script_tree.specs.Spawning.{IsPlaced};
 ghost use Rattle.journal_replay.specs.Replays.{Refuses, Settles, StandsAfter};
 ghost use Rattle.journal_replay.specs.Lines.{trees_in};
+ghost use Rattle.journal_replay.specs.Runs.{BreaksOffAt};
 ghost use Rattle.journal_replay.specs.Stamping.{AreLegal, AreRestamped};
 
 use crate::openings::Openings;
@@ -29,14 +30,36 @@ pub fn replay(
     ensures stands { MatchResult result (StandsAfter (map proc_of processes.now) rows commits.now) (Refuses (map proc_of processes.now) rows commits.now) }
     ensures trees { IfOk result (λ state. trees_in state ≡ map tree_of processes.now) }
 {
+    let (state, lawful) = replay_lawful(alloc, processes, rows, commits)?;
+    if lawful < commits.len() {
+        return Err(ReplayFault::Unlawful(lawful));
+    }
+    Ok(state)
+}
+
+/// The same as far as they are a run: where those lead, and how many they are. Behind them stands the first commit with
+/// which they are none.
+pub fn replay_lawful(
+    alloc: Global,
+    processes: &[Proc],
+    rows: u32,
+    commits: &[Commit],
+) -> Result<(State, usize), AllocError>
+    requires few { length processes.now ≤ 64 }
+    requires rows { rows ≤ most_rows }
+    requires placed { IsPlaced (map proc_of processes.now) }
+    ensures stands { IfOk result (λ led. StandsAfter (map proc_of processes.now) rows (take led.1 commits.now) led.0) }
+    ensures far { IfOk result (λ led. (led.1 ≡ length commits.now) ⊎ BreaksOffAt (map proc_of processes.now) rows commits.now led.1) }
+    ensures trees { IfOk result (λ led. trees_in led.0 ≡ map tree_of processes.now) }
+{
     let mut threads = Threads::start(alloc, processes, rows)?;
     for (index, commit) in commits.iter().enumerate() {
         if !threads.may_follow(commit) {
-            return Err(ReplayFault::Unlawful(index));
+            return Ok((State { threads }, index));
         }
         threads.apply(commit)?;
     }
-    Ok(State { threads })
+    Ok((State { threads }, commits.len()))
 }
 
 /// Adds the commits one after another, each with the stamp that it has there: the stamps that they come with count for

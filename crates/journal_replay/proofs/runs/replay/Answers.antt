@@ -1,21 +1,16 @@
-use Rattle.std.proofs.Common.{◌∙◌}
-use Rattle.std.proofs.lemmas.Bool.{both_ways}
-use Rattle.journal_replay.proofs.Lines.{commits-kept}
-use Rattle.journal_replay.proofs.Replaying.{after-order, replay-stops, replay-goes}
+use Rattle.std.proofs.Common.{◌≤◌, List, length, map, subst, arith, ⊎_elim}
+use Rattle.std.proofs.lemmas.List.{take_all}
+use Rattle.script_tree.specs.Processes.{proc_of}
+use Rattle.protocol_values.specs.declared.Commit.{Commit}
+use Rattle.journal_replay.specs.Replays.{StandsAfter}
+use Rattle.journal_replay.specs.Runs.{BreaksOffAt}
 use Rattle.journal_replay.proofs.runs.replay.Goals as goal
 
-pub returns-then-not-may_follow-clause-stands : goal.returns-then-not-may_follow-clause-stands
-returns-then-not-may_follow-clause-stands c =
-    replay-stops _ _ _ _ _ c.loop-index.threads c.loop-index.invariant.after c.loop-index-test.true
-    (λ m. both_ways _ c.if-not-may_follow.true (c.may_follow.ensures.1 m))
+pub returns-then-lawful-commits-clause-stands : goal.returns-then-lawful-commits-clause-stands
+returns-then-lawful-commits-clause-stands c =
+    ⊎_elim (λ whole. absurd (omega (arith, whole, c.if-lawful-commits.true))) (λ breaks. breaks) c.in_ok-state.ensures.far
 
-pub loop-index-preserved : goal.loop-index-preserved
-loop-index-preserved c = record {
-  after =
-      replay-goes _ _ _ _ _ c.loop-index.threads c.apply.new.self c.loop-index.invariant.after c.loop-index-test.true
-      (c.may_follow.ensures.0 c.if-not-may_follow.false) c.in_ok-apply.ensures.strands c.apply.ensures.rows;
-  trees = commits-kept _ _ _ c.in_ok-apply.ensures.strands ∙ c.loop-index.invariant.trees;
-}
-
-pub apply-requires-clause-order : goal.apply-requires-clause-order
-apply-requires-clause-order c = after-order _ _ _ c.loop-index.threads c.loop-index.invariant.after
+pub returns-clause-stands : goal.returns-clause-stands
+returns-clause-stands c =
+    let past : length c.args.commits.now ≤ c.in_ok-state.lawful = omega (arith, c.if-lawful-commits.false) in
+    subst (λ (cs : List Commit). StandsAfter (map proc_of c.args.processes.now) c.args.rows cs c.in_ok-state.state) (take_all c.in_ok-state.lawful c.args.commits.now past) c.in_ok-state.ensures.stands

@@ -2,7 +2,7 @@ use Rattle.std.proofs.Common.{◌≡◌, map, take}
 use Rattle.script_tree.specs.Processes.{proc_of, tree_of}
 use Rattle.journal_replay.specs.Lines.{trees_of}
 use Rattle.journal_replay.specs.Reaching.{AreAfter}
-use Rattle.journal_replay.proofs.runs.replay.Given as goal
+use Rattle.journal_replay.proofs.runs.replay_lawful.Given as goal
 
 abbrev pub invariant-loop-index : goal.invariant-loop-index
 invariant-loop-index l = record {
