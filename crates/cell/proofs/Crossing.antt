@@ -4,7 +4,7 @@ use denote.Param.Send.{IsSend, IsSync, sendable}
 use denote.Param.SendFields.{declared_sync}
 use Rattle.std.proofs.Crossing.{crosses, frees, send, sync}
 use Rattle.atomic_table.proofs.owned.Table.TheSendSync.{the_sync as table_sync}
-use Rattle.protocol.specs.declared.resident.Resident.{Ghosts}
+use Rattle.protocol_ledger.specs.declared.resident.Resident.{Ghosts}
 use Rattle.cell_table.specs.contracts.view.Shape as Shape
 use Rattle.cell_table.specs.contracts.board.Board as Board
 use Rattle.cell_table.specs.contracts.board.Law as Law

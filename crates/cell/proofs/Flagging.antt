@@ -6,8 +6,8 @@ use Rattle.protocol_values.specs.declared.Joined.{Joined}
 use Rattle.protocol_values.specs.declared.Row.{Row}
 use Rattle.protocol_values.specs.Values.{next_row}
 use Rattle.protocol.specs.Tables.{row_eq, number_of}
-use Rattle.protocol.proofs.RowLemmas.{row_cases, row_eq-false, same_row}
-use Rattle.protocol.proofs.Places.{same_block, same_rest, block_inside}
+use Rattle.protocol_ledger.proofs.RowLemmas.{row_cases, row_eq-false, same_row}
+use Rattle.protocol_ledger.proofs.Places.{same_block, same_rest, block_inside}
 use Rattle.protocol.specs.Worlds.{first_row}
 use Rattle.cell.specs.Attempts.{Started, Took}
 use Rattle.cell.specs.Flags.{AreFlags, places_behind, places_of}

@@ -11,7 +11,7 @@ use Rattle.protocol_values.specs.declared.Base.TheVariants.{Send, Recv, Always, 
 use Rattle.protocol_values.specs.declared.Message.{Message}
 use Rattle.protocol.specs.Tables.{offers_meet, is_partner, is_fresh}
 use Rattle.protocol_values.specs.Values.{bases_meet, joined_of}
-use Rattle.protocol.proofs.RowLemmas.{row_eq-refl}
+use Rattle.protocol_ledger.proofs.RowLemmas.{row_eq-refl}
 use Rattle.cell_table.specs.Sight.{Coherent, SawChosen, LackOffer, IsKnownOpen, Has, HaveDirection, HasSeenLast, CanJoin, Learns, LearnsOf, next_stamp, see_opened, SawCommitted, see_cell}
 use Rattle.protocol_values.specs.Values.{directions_meet}
 use Rattle.cell_table.specs.declared.view.Seen.{Seen}
@@ -30,7 +30,7 @@ use Rattle.cell_table.proofs.Offers.{few}
 
 pub from_some : {A : Type 0} (x : Option A) (P : A → Type 0) (a : A) → IfSome x P → x ≡ Some a → P a
 from_some None P a h e = let bad : None ≡ Some a = e in cc
-from_some (Some b) P a h e = subst P (Rattle.protocol.proofs.Linking.some_inj b a e) h
+from_some (Some b) P a h e = subst P (Rattle.protocol_ledger.proofs.Linking.some_inj b a e) h
 
 -- rows that can be joined can meet, also once more was learnt
 pub can_meet : {Nacks : NackName → Type 0} {Lives : ℕ → Type 0} (About : Row → Type 0) (s t : Seen) (mine other : Row) (own partner : ℕ) (j : Joined) → LearnsOf About Nacks Lives s t → CanJoin s mine own other partner j → CanMeet t mine own other partner
@@ -147,8 +147,8 @@ pub saw_joined : (r : Row) (c : Cell) (j : Joined) (s : Seen) → joined_of c �
 saw_joined r Fresh j s e = let bad : None ≡ Some j = e in cc
 saw_joined r Waiting j s e = let bad : None ≡ Some j = e in cc
 saw_joined r Claimed j s e = let bad : None ≡ Some j = e in cc
-saw_joined r (Synched i) j s e = inl (ap (λ (k : Joined). (r, k)) (Rattle.protocol.proofs.Linking.some_inj i j e))
-saw_joined r (Taken i) j s e = inl (ap (λ (k : Joined). (r, k)) (Rattle.protocol.proofs.Linking.some_inj i j e))
+saw_joined r (Synched i) j s e = inl (ap (λ (k : Joined). (r, k)) (Rattle.protocol_ledger.proofs.Linking.some_inj i j e))
+saw_joined r (Taken i) j s e = inl (ap (λ (k : Joined). (r, k)) (Rattle.protocol_ledger.proofs.Linking.some_inj i j e))
 
 pub err_case : {A B : Type 0} (x : Result A B) (P : B → Type 0) → is_err x ≡ true → IfErr x P → (b : B) × P b
 err_case (Ok a) P e h = let bad : false ≡ true = e in cc

@@ -5,11 +5,11 @@ use Rattle.std.proofs.lemmas.List.{length-append}
 use Rattle.std.proofs.Math.Nat.{mod-eq_of_lt}
 use Rattle.protocol_values.specs.declared.Row.{Row}
 use Rattle.protocol.specs.Tables.{row_eq}
-use Rattle.protocol.specs.declared.opening.Life.{Life}
-use Rattle.protocol.specs.declared.opening.Life.TheVariants as life
+use Rattle.protocol_ledger.specs.declared.opening.Life.{Life}
+use Rattle.protocol_ledger.specs.declared.opening.Life.TheVariants as life
 use Rattle.protocol.specs.Openings.{Opening, is_running, start_opening, thread_in}
-use Rattle.protocol.proofs.LedgerLemmas.{first_thread, nobody_waits}
-use Rattle.protocol.proofs.RowLemmas.{row_eq-refl, row_eq-true}
+use Rattle.protocol_ledger.proofs.LedgerLemmas.{first_thread, nobody_waits}
+use Rattle.protocol_ledger.proofs.RowLemmas.{row_eq-refl, row_eq-true}
 use Rattle.cell_table.specs.Sight.{Has}
 use Rattle.protocol.specs.Worlds.{first_row}
 use Rattle.cell_table.specs.Rule.{is_among, dealt_rows}

@@ -7,7 +7,7 @@ use Rattle.std.proofs.Math.Nat.{eq-or-lt_of_le}
 use Rattle.protocol_values.specs.Words.{count_of, head_of, offer_of, is_word_for}
 use Rattle.protocol_values.specs.declared.Head.{Head}
 use Rattle.protocol_values.specs.declared.Offer.{Offer}
-use Rattle.protocol.proofs.Linking.{some_inj}
+use Rattle.protocol_ledger.proofs.Linking.{some_inj}
 use Rattle.protocol_values.specs.declared.Row.{Row}
 use Rattle.protocol_values.specs.declared.Step.{Step}
 use Rattle.protocol_values.specs.declared.Step.TheVariants.{Draft}

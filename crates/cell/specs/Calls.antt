@@ -5,11 +5,11 @@ use Rattle.atomic_table.specs.Table.{rest}
 use Rattle.protocol_values.specs.declared.NackName.{NackName}
 use Rattle.protocol_values.specs.declared.Row.{Row}
 use Rattle.protocol_values.specs.declared.Step.{Step}
-use Rattle.protocol.specs.declared.opening.Life.{Life}
-use Rattle.protocol.specs.declared.opening.NackState.{NackState}
+use Rattle.protocol_ledger.specs.declared.opening.Life.{Life}
+use Rattle.protocol_ledger.specs.declared.opening.NackState.{NackState}
 use Rattle.protocol.specs.Openings.{Opening}
 use Rattle.protocol.specs.Standing.{Result, Stands}
-use Rattle.protocol.specs.declared.resident.Bare.{Bare}
+use Rattle.protocol_ledger.specs.declared.resident.Bare.{Bare}
 use Rattle.cell_table.specs.declared.view.Seen.{Seen}
 use Rattle.cell_table.specs.Rule.{IsReady}
 use Rattle.cell_table.specs.Sight.{AreSettled, Coherent, Has, see_begun}

@@ -17,7 +17,7 @@ use Rattle.cell.proofs.cells.Pass.TheSendSync.{the_send as pass_send}
 use Rattle.cell.proofs.Crossing.{cells_sync}
 use Rattle.std.specs.contracts.option.Option as Option
 use Rattle.meet_directory.proofs.directory.Directory.TheSendSync.{the_send as directory_send, the_sync as directory_sync}
-use Rattle.protocol.proofs.ledger.Ledger.TheSendSync.{the_send as ledger_send}
+use Rattle.protocol_ledger.proofs.ledger.Ledger.TheSendSync.{the_send as ledger_send}
 use Rattle.cell_hand.specs.contracts.hand.Hand as Hand
 use Rattle.cell_hand.specs.contracts.hand.Hand.TheInside as Inside
 use Rattle.cell_hand.specs.contracts.hand.Table as Table

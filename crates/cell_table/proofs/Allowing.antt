@@ -27,12 +27,12 @@ use Rattle.protocol_values.specs.Values.{joined_of, next_row}
 use Rattle.protocol.specs.Openings.{Opening, greatest}
 use Rattle.protocol.specs.Worlds.{World, Condition, after_step, namer_at, joined_with, mirrored, with_seal, with_table, with_cell, with_word, holder_at, with_take, Allowed, IsAlive, first_row, last_holder}
 use Rattle.protocol.specs.Kept.{Kept}
-use Rattle.protocol.proofs.RowLemmas.{row_ne, row_cases, row_eq-refl, same_row, put, put_other, put_same}
-use Rattle.protocol.proofs.Naming.{namer_none, namer_is}
-use Rattle.protocol.proofs.Places.{row_from, row_inside}
-use Rattle.protocol.proofs.Readings.{cell_inside, row_of_open}
-use Rattle.protocol.proofs.Linking.{fresh_not_joined, some_inj, cases_Option}
-use Rattle.protocol.proofs.Keeping.{kept_step, idle_unnamed, join_in_range, grant_in_range, waits_unjoined, IsSealing, sealed_is, seal_in_range, is_held}
+use Rattle.protocol_ledger.proofs.RowLemmas.{row_ne, row_cases, row_eq-refl, same_row, put, put_other, put_same}
+use Rattle.protocol_ledger.proofs.Naming.{namer_none, namer_is}
+use Rattle.protocol_ledger.proofs.Places.{row_from, row_inside}
+use Rattle.protocol_ledger.proofs.Readings.{cell_inside, row_of_open}
+use Rattle.protocol_ledger.proofs.Linking.{fresh_not_joined, some_inj, cases_Option}
+use Rattle.protocol_ledger.proofs.Keeping.{kept_step, idle_unnamed, join_in_range, grant_in_range, waits_unjoined, IsSealing, sealed_is, seal_in_range, is_held}
 use Rattle.cell_table.specs.declared.view.View.{View}
 use Rattle.cell_table.specs.declared.view.Shape.{Shape}
 use Rattle.cell_table.specs.declared.view.Stage.{Stage}
@@ -41,10 +41,10 @@ use Rattle.cell_table.specs.declared.view.Seen.{Seen}
 use Rattle.cell_table.specs.Sight.{AreSettled, Has, CanJoin, Coherent, IsResult, IsStand, SawEnded, see_cell, see_held}
 use Rattle.protocol.specs.Standing.{AreResults, IsLeft, Result, Stands}
 use Rattle.protocol.specs.Ledgers.{joined_in as ledger_joined, ledger_of}
-use Rattle.protocol.proofs.LedgerLemmas.{joined_in_ledger, lawful_ledger}
-use Rattle.protocol.proofs.Onward.{grows-step}
-use Rattle.protocol.proofs.Results.{joined-results}
-use Rattle.protocol.proofs.Standing.{results-stay}
+use Rattle.protocol_ledger.proofs.LedgerLemmas.{joined_in_ledger, lawful_ledger}
+use Rattle.protocol_ledger.proofs.Onward.{grows-step}
+use Rattle.protocol_ledger.proofs.Results.{joined-results}
+use Rattle.protocol_ledger.proofs.Standing.{results-stay}
 use Rattle.cell_table.specs.Nacks.{CanGrant}
 use Rattle.cell_table.proofs.Following.{knows_follows, knows_owned, hold_more, stand_behind, taken_world, not_held, not_last, no_end_taken, goes_on, last_held_now, next_unopened, follows_taken, bindings_after, next_unbound, taken_at, next_held, alive_unseen, stand_ends}
 use Rattle.cell_table.specs.Views.{Knows, RunsIn, SeesEnd, Staged, opening_by, opening_in, IsClaimer, behind_last, at_stage, did, took, took_with, saw, read_word, drafted_word, turned, word_drafted}
@@ -55,7 +55,7 @@ use Rattle.cell_table.proofs.Others.{knows_begun, learn_cell, learn_word, others
 use Rattle.cell_table.proofs.Courses.{KeepsLives}
 use Rattle.cell_table.proofs.Seating.{MovesOn, Stays, saw_stays}
 use Rattle.cell_table.proofs.Turning.{world_kept, keeps_housed, keeps_seen, keeps_view, keeps_step, moved_coherent}
-use Rattle.protocol.proofs.Short.{set_word, short_word}
+use Rattle.protocol_ledger.proofs.Short.{set_word, short_word}
 use Rattle.cell_table.proofs.Counts.{DraftsFew}
 use Rattle.cell_table.proofs.Shortness.{same_short}
 use Rattle.cell_table.proofs.Housing.{LeavesHomes, first_out, housed_begin, housed_open, housed_take, some_or_none, took_begins, took_begun, took_holds, value_out}
@@ -431,7 +431,7 @@ module _ {M : Type 0} (stands : Stands M) where
           taker = did (Take r) (took_with r j results me.0)
 
           after_take : after_step k.world seat (Take r) ≡ later_taken
-          after_take = ap (λ (o : Option Joined). Rattle.protocol.proofs.Keeping.took k.world seat r (with_take k.world.table r o)) (ap synched_of is)
+          after_take = ap (λ (o : Option Joined). Rattle.protocol_ledger.proofs.Keeping.took k.world seat r (with_take k.world.table r o)) (ap synched_of is)
 
           allowed_take : Allowed k.world seat (Take r)
           allowed_take = (known.seat, ap (λ (o : Option Joined). is_some o) (ap synched_of is))

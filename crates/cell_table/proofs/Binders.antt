@@ -14,9 +14,9 @@ use Rattle.protocol_values.specs.declared.Step.TheVariants.{Draft, Open, Look, R
 use Rattle.protocol.specs.Kept.{Kept}
 use Rattle.protocol.specs.Tables.{Table, binding_at, is_fresh, is_row, synched_of}
 use Rattle.protocol.specs.Worlds.{Allowed, Plays, World, after_step, nack_of_row, namer_at, sealed_by, with_cell, with_seal, with_take}
-use Rattle.protocol.proofs.Keeping.{bind_in_range, held_row, kept_schedule}
-use Rattle.protocol.proofs.Places.{row_inside}
-use Rattle.protocol.proofs.Readings.{binding_after_cell, binding_after_life, binding_after_word, binding_was, row_of_open}
+use Rattle.protocol_ledger.proofs.Keeping.{bind_in_range, held_row, kept_schedule}
+use Rattle.protocol_ledger.proofs.Places.{row_inside}
+use Rattle.protocol_ledger.proofs.Readings.{binding_after_cell, binding_after_life, binding_after_word, binding_was, row_of_open}
 use Rattle.cell_table.specs.declared.view.View.{View}
 use Rattle.cell_table.specs.Rule.{Interleaves, Move, at_seat, in_order, steps_by}
 use Rattle.cell_table.specs.Sight.{Has}

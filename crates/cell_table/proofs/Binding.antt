@@ -20,13 +20,13 @@ use Rattle.protocol_values.specs.Values.{joined_of}
 use Rattle.protocol.specs.Openings.{Opening, greatest}
 use Rattle.protocol.specs.Worlds.{World, holder_at, with_nack, with_table}
 use Rattle.protocol.specs.Kept.{Kept}
-use Rattle.protocol.proofs.Linking.{cases_Option, some_inj, some_parts}
+use Rattle.protocol_ledger.proofs.Linking.{cases_Option, some_inj, some_parts}
 use Rattle.protocol.specs.Short.{short_nack_place, widen}
-use Rattle.protocol.proofs.Places.{word_bound}
-use Rattle.protocol.proofs.Short.{set_nack, short_nack}
+use Rattle.protocol_ledger.proofs.Places.{word_bound}
+use Rattle.protocol_ledger.proofs.Short.{set_nack, short_nack}
 use Rattle.cell_table.proofs.Shortness.{same_short_nack}
-use Rattle.protocol.proofs.Readings.{bound_is, carried_is, says_inside, carried_after_bind, course_after_bind, binding_bound, binding_kept, binding_was, cell_after_bind}
-use Rattle.protocol.proofs.Keeping.{holder_same, taken_before}
+use Rattle.protocol_ledger.proofs.Readings.{bound_is, carried_is, says_inside, carried_after_bind, course_after_bind, binding_bound, binding_kept, binding_was, cell_after_bind}
+use Rattle.protocol_ledger.proofs.Keeping.{holder_same, taken_before}
 use Rattle.cell_table.specs.declared.view.View.{View}
 use Rattle.cell_table.specs.declared.view.Shape.{Shape}
 use Rattle.cell_table.specs.declared.view.Stage.TheVariants.{Aside, Left, Resting}

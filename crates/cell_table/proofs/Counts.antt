@@ -14,12 +14,12 @@ use Rattle.protocol_values.specs.declared.Step.TheVariants.{Draft, Open, Look, R
 use Rattle.protocol.specs.Kept.{Kept}
 use Rattle.protocol.specs.Tables.{Table, all_rows, cell_at, course_at, is_fresh, is_row, joined_at, last_stamp, marks_at, row_eq, synched_of, word_at}
 use Rattle.protocol.specs.Worlds.{Allowed, Condition, World, after_step, ended_at, granted_by, joined_with, mirrored, nack_of_row, namer_at, sealed_by, with_cell, with_seal, with_take, with_word}
-use Rattle.protocol.proofs.Keeping.{held_row, nack_of_thread, sealed_is, sealing, synched_is}
-use Rattle.protocol.proofs.Linking.{some_parts}
-use Rattle.protocol.proofs.Naming.{namer_names}
-use Rattle.protocol.proofs.Places.{is_row_after, is_row_bound, is_row_lived, word_bound, word_lived, word_other, word_same}
-use Rattle.protocol.proofs.Readings.{row_of_open}
-use Rattle.protocol.proofs.RowLemmas.{row_cases}
+use Rattle.protocol_ledger.proofs.Keeping.{held_row, nack_of_thread, sealed_is, sealing, synched_is}
+use Rattle.protocol_ledger.proofs.Linking.{some_parts}
+use Rattle.protocol_ledger.proofs.Naming.{namer_names}
+use Rattle.protocol_ledger.proofs.Places.{is_row_after, is_row_bound, is_row_lived, word_bound, word_lived, word_other, word_same}
+use Rattle.protocol_ledger.proofs.Readings.{row_of_open}
+use Rattle.protocol_ledger.proofs.RowLemmas.{row_cases}
 
 -- how many offers the word says
 abbrev pub told_count : ℕ → ℕ

@@ -15,9 +15,9 @@ use Rattle.protocol.specs.Kept.{Kept}
 use Rattle.protocol.specs.Ledgers.{LivesAt}
 use Rattle.protocol.specs.Tables.{Table, cell_at, course_at, is_fresh, is_taken}
 use Rattle.protocol.specs.Worlds.{HasEnded, World}
-use Rattle.protocol.proofs.Keeping.{taken_before}
-use Rattle.protocol.proofs.Linking.{taken_open}
-use Rattle.protocol.proofs.Readings.{course_outside}
+use Rattle.protocol_ledger.proofs.Keeping.{taken_before}
+use Rattle.protocol_ledger.proofs.Linking.{taken_open}
+use Rattle.protocol_ledger.proofs.Readings.{course_outside}
 use Rattle.protocol.specs.Acting.{EndedAs, EndsAt, HasStart, StartedAs}
 use Rattle.protocol.specs.Standing.{Result}
 

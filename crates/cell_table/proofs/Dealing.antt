@@ -15,21 +15,21 @@ use Rattle.protocol_values.specs.declared.Course.{Course}
 use Rattle.protocol_values.specs.declared.Course.TheVariants.{Ended, Unstarted}
 use Rattle.protocol_values.specs.declared.Row.{Row}
 use Rattle.protocol_values.specs.declared.Cell.TheVariants.{Fresh, Claimed}
-use Rattle.protocol.specs.declared.opening.Life.{Life}
-use Rattle.protocol.specs.declared.opening.Life.TheVariants as life
+use Rattle.protocol_ledger.specs.declared.opening.Life.{Life}
+use Rattle.protocol_ledger.specs.declared.opening.Life.TheVariants as life
 use Rattle.protocol_values.specs.Words.{count_of}
 use Rattle.protocol.specs.Short.{short_len}
 use Rattle.protocol.specs.Openings.{AreFirstWords, Begins, HadEnded, HadStarted, IsOpening, Opening, course_for, greatest, held_first, is_running, thread_in}
 use Rattle.protocol.specs.Tables.{all_rows, course_at, cell_at, word_at, binding_at, bound_row, carried_at, is_fresh, is_row}
 use Rattle.protocol.specs.Worlds.{World, holder_at, first_row}
-use Rattle.protocol.proofs.Beginning.{first_binding, first_carried, first_cell, first_course}
-use Rattle.protocol.proofs.Linking.{some_inj}
-use Rattle.protocol.proofs.Starting.{next_begins}
-use Rattle.protocol.proofs.Places.{row_from}
-use Rattle.protocol.proofs.RowLemmas.{same_row}
+use Rattle.protocol_ledger.proofs.Beginning.{first_binding, first_carried, first_cell, first_course}
+use Rattle.protocol_ledger.proofs.Linking.{some_inj}
+use Rattle.protocol_ledger.proofs.FirstWords.{next_begins}
+use Rattle.protocol_ledger.proofs.Places.{row_from}
+use Rattle.protocol_ledger.proofs.RowLemmas.{same_row}
 use Rattle.protocol.specs.Standing.{AreResults, Result, Stands}
 use Rattle.protocol.specs.Ledgers.{ledger_of}
-use Rattle.protocol.proofs.Acting.{ends-begin, starts-begin}
+use Rattle.protocol_ledger.proofs.Acting.{ends-begin, starts-begin}
 use Rattle.cell_table.specs.declared.view.View.{View}
 use Rattle.cell_table.specs.declared.view.Shape.{Shape}
 use Rattle.cell_table.specs.declared.view.Stage.TheVariants.{Aside, Resting}
@@ -508,7 +508,7 @@ each_more P xs ys x n len is last before k y e = ⊎_elim
     (get_end xs x y k (ap (λ (l : List _). slice_get l k) (sym is) ∙ e))
   where
     get_end : {A : Type 0} (l : List A) (a b : A) (j : ℕ) → slice_get (l ++ a ∷ []) j ≡ Some b → (slice_get l j ≡ Some b) ⊎ ((j ≡ length l) × (a ≡ b))
-    get_end [] a b zero e = inr (refl, Rattle.protocol.proofs.Linking.some_inj a b e)
+    get_end [] a b zero e = inr (refl, Rattle.protocol_ledger.proofs.Linking.some_inj a b e)
     get_end [] a b (suc j) e = let bad : None ≡ Some b = e in cc
     get_end (x ∷ xs) a b zero e = inl e
     get_end (x ∷ xs) a b (suc j) e = ⊎_elim (λ h. inl h) (λ h. inr (ap suc h.0, h.1)) (get_end xs a b j e)

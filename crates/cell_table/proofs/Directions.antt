@@ -10,7 +10,7 @@ use Rattle.protocol_values.specs.declared.Offer.{Offer}
 use Rattle.protocol_values.specs.declared.Row.{Row}
 use Rattle.protocol.specs.Tables.{offers_meet}
 use Rattle.protocol_values.specs.Values.{bases_meet}
-use Rattle.protocol.proofs.Linking.{some_inj}
+use Rattle.protocol_ledger.proofs.Linking.{some_inj}
 use Rattle.cell_table.specs.declared.view.Seen.{Seen}
 use Rattle.cell_table.specs.Sight.{Has, HaveDirection, HaveOffer, SeesDirection, SeesOffer, Coherent, Learns, LearnsOf}
 use Rattle.protocol_values.specs.Values.{directions_meet}

@@ -19,10 +19,10 @@ use Rattle.protocol.specs.Standing.{Stands}
 use Rattle.protocol.specs.Short.{short_course_place}
 use Rattle.protocol.specs.Tables.{Table, binding_at, course_at, is_fresh, is_taken, start_of}
 use Rattle.protocol.specs.Worlds.{Allowed, World, after_step, ended_at, with_course, with_table}
-use Rattle.protocol.proofs.Keeping.{holder_same, rows_lived, threads_lived}
-use Rattle.protocol.proofs.Places.{word_lived}
-use Rattle.protocol.proofs.Readings.{binding_after_life, carried_after_life, cell_after_life, course_lived, course_lived_other}
-use Rattle.protocol.proofs.RowLemmas.{same_row}
+use Rattle.protocol_ledger.proofs.Keeping.{holder_same, rows_lived, threads_lived}
+use Rattle.protocol_ledger.proofs.Places.{word_lived}
+use Rattle.protocol_ledger.proofs.Readings.{binding_after_life, carried_after_life, cell_after_life, course_lived, course_lived_other}
+use Rattle.protocol_ledger.proofs.RowLemmas.{same_row}
 use Rattle.cell_table.specs.declared.view.Shape.{Shape}
 use Rattle.cell_table.specs.declared.view.Stage.TheVariants.{Aside, Left, Resting}
 use Rattle.cell_table.specs.declared.view.View.{View}
@@ -31,7 +31,7 @@ use Rattle.cell_table.specs.Sight.{Has, IsStand, SawEnded}
 use Rattle.protocol.specs.Acting.{EndsAt, HasStart}
 use Rattle.cell_table.specs.Told.{finished}
 use Rattle.cell_table.specs.Views.{Knows, ended_thread, saw_course}
-use Rattle.protocol.proofs.Onward.{grows-step}
+use Rattle.protocol_ledger.proofs.Onward.{grows-step}
 use Rattle.cell_table.proofs.Housing.{housed_step}
 use Rattle.cell_table.proofs.Following.{Follows, IsPlace, alive_unseen, knows_anew, one_place, stand_ends, stand_owned, stand_place, stands_at}
 use Rattle.cell_table.proofs.Starts.{at_table, known, kept, its, one_course, one_life}

@@ -15,11 +15,11 @@ use Rattle.protocol.specs.Tables.{course_at, is_row, row_eq, is_fresh, is_taken,
 use Rattle.protocol_values.specs.Values.{next_row, joined_of}
 use Rattle.protocol.specs.Worlds.{IsAlive, StandsAt, World, first_row, handed_last, holder_at, last_holder, with_cell, with_table, with_holders, handed}
 use Rattle.protocol.specs.Kept.{Kept}
-use Rattle.protocol.proofs.RowLemmas.{row_cases, row_ne, same_row, put, put_same, put_other}
-use Rattle.protocol.proofs.Linking.{cases_Option, taken_open}
-use Rattle.protocol.proofs.Readings.{row_of_open, row_after_cell, binding_after_cell, carried_after_cell, course_after_cell}
-use Rattle.protocol.proofs.Keeping.{held_row, holder_lasted, last_kept_at, open_held, hand_other, hand_next, handed_same, cells_taken, taken_before, took}
-use Rattle.protocol.proofs.Places.{row_inside, word_other}
+use Rattle.protocol_ledger.proofs.RowLemmas.{row_cases, row_ne, same_row, put, put_same, put_other}
+use Rattle.protocol_ledger.proofs.Linking.{cases_Option, taken_open}
+use Rattle.protocol_ledger.proofs.Readings.{row_of_open, row_after_cell, binding_after_cell, carried_after_cell, course_after_cell}
+use Rattle.protocol_ledger.proofs.Keeping.{held_row, holder_lasted, last_kept_at, open_held, hand_other, hand_next, handed_same, cells_taken, taken_before, took}
+use Rattle.protocol_ledger.proofs.Places.{row_inside, word_other}
 use Rattle.cell_table.specs.declared.view.View.{View}
 use Rattle.cell_table.specs.declared.view.Stage.{Stage}
 use Rattle.cell_table.specs.declared.view.Stage.TheVariants.{Resting, Claims, Joins, Aside, Left}
@@ -346,7 +346,7 @@ module _ (w : World) (seat : Seat) (x : Row) (j : Joined) (k : Kept w) (is : cel
   next_unheld : holder_at w (next_row x) ≡ None
   next_unheld = ⊎_elim
       (λ (e : holder_at w (next_row x) ≡ None). e)
-      (λ (s : (s : ℕ) × (holder_at w (next_row x) ≡ Some s)). absurd (false≢true (sym (not_held (next_row x) s.0 s.1) ∙ Rattle.protocol.proofs.RowLemmas.row_eq-refl (next_row x))))
+      (λ (s : (s : ℕ) × (holder_at w (next_row x) ≡ Some s)). absurd (false≢true (sym (not_held (next_row x) s.0 s.1) ∙ Rattle.protocol_ledger.proofs.RowLemmas.row_eq-refl (next_row x))))
       (cases_Option (holder_at w (next_row x)))
 
   word_kept : (r : Row) (p : ℕ) → is_row w.table r ≡ true → 1 ≤ p → p < 34 → word_at (with_cell w.table x (Taken j)) r p ≡ word_at w.table r p
@@ -365,7 +365,7 @@ module _ (w : World) (seat : Seat) (x : Row) (j : Joined) (k : Kept w) (is : cel
       holder_lasted (with_holders (with_table w (with_cell w.table x (Taken j))) (handed w.table w.holders seat x)) (handed_last w.table w.lasts seat x) r
       ∙ ap (λ (hs : List (Option ℕ)). holder_at (with_holders (with_table w (with_cell w.table x (Taken j))) hs) r) hands_after
       ∙ hand_other (with_table w (with_cell w.table x (Taken j))) seat x r e
-      ∙ Rattle.protocol.proofs.Keeping.holder_same w (with_cell w.table x (Taken j)) r size_after.0 size_after.1
+      ∙ Rattle.protocol_ledger.proofs.Keeping.holder_same w (with_cell w.table x (Taken j)) r size_after.0 size_after.1
 
   pub bindings_after : (n : NackName) → binding_at (with_cell w.table x (Taken j)) n ≡ binding_at w.table n
   bindings_after n = ap (λ (f : NackName → Option Binding). f n) (binding_after_cell w.table x (Taken j) (row_of_open w.table x (ap is_fresh is)))

@@ -11,7 +11,7 @@ use Rattle.protocol_values.specs.declared.Binding.{Binding}
 use Rattle.protocol_values.specs.declared.Row.{Row}
 use Rattle.protocol.specs.Tables.{row_eq}
 use Rattle.protocol.specs.Worlds.{World}
-use Rattle.protocol.proofs.RowLemmas.{row_eq-refl, row_eq-true}
+use Rattle.protocol_ledger.proofs.RowLemmas.{row_eq-refl, row_eq-true}
 use Rattle.protocol_values.specs.declared.Offer.{Offer}
 use Rattle.protocol.specs.Standing.{AreResults, Result, Stands}
 use Rattle.protocol.specs.Ledgers.{ledger_of}

@@ -12,7 +12,7 @@ use Rattle.protocol.specs.Ledgers.{ledger_of}
 use Rattle.protocol.specs.Standing.{OffersAs, Stands}
 use Rattle.protocol.specs.Tables.{binding_at, bound_row, cell_at, is_fresh}
 use Rattle.protocol.specs.Worlds.{World, first_row}
-use Rattle.protocol.proofs.LedgerLemmas.{binding_in_ledger}
+use Rattle.protocol_ledger.proofs.LedgerLemmas.{binding_in_ledger}
 use Rattle.cell_table.specs.declared.view.View.{View}
 use Rattle.cell_table.specs.Laws.{IsNackThere, StandsFor}
 use Rattle.cell_table.specs.Rule.{HasOpenRow, Housed, StoodFirst}

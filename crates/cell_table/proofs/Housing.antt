@@ -23,10 +23,10 @@ use Rattle.protocol_values.specs.declared.Offer.{Offer}
 use Rattle.protocol.specs.Tables.{Table, cell_at, course_at, is_fresh, is_taken}
 use Rattle.protocol_values.specs.Values.{next_row}
 use Rattle.protocol.specs.Worlds.{Allowed, World, after_step, first_row, holder_at}
-use Rattle.protocol.proofs.Keeping.{is_held, taken_before}
-use Rattle.protocol.proofs.Onward.{grows-step, opens-step, taken-step}
-use Rattle.protocol.proofs.RowLemmas.{same_row}
-use Rattle.protocol.proofs.Standing.{offers-stay, stands-step}
+use Rattle.protocol_ledger.proofs.Keeping.{is_held, taken_before}
+use Rattle.protocol_ledger.proofs.Onward.{grows-step, opens-step, taken-step}
+use Rattle.protocol_ledger.proofs.RowLemmas.{same_row}
+use Rattle.protocol_ledger.proofs.Standing.{offers-stay, stands-step}
 use Rattle.cell_table.specs.declared.view.View.{View}
 use Rattle.cell_table.specs.declared.view.Seen.{Seen}
 use Rattle.cell_table.specs.Sight.{Has, see_held, see_next}

@@ -10,8 +10,8 @@ use Rattle.protocol_values.specs.declared.Offer.{Offer}
 use Rattle.protocol_values.specs.declared.Row.{Row}
 use Rattle.protocol.specs.Kept.{Linked}
 use Rattle.protocol.specs.Tables.{Table, cell_at, is_fresh, is_row, is_taken, marks_at, offer_at}
-use Rattle.protocol.proofs.Places.{row_inside}
-use Rattle.protocol.proofs.Readings.{cell_outside, count_fresh, offer_none}
+use Rattle.protocol_ledger.proofs.Places.{row_inside}
+use Rattle.protocol_ledger.proofs.Readings.{cell_outside, count_fresh, offer_none}
 use Rattle.cell_table.specs.declared.view.Shape.{Shape}
 use Rattle.cell_table.specs.Closings.{AreInTurn, words_of}
 

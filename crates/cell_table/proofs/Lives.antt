@@ -13,9 +13,9 @@ use Rattle.protocol.specs.Standing.{Stands}
 use Rattle.protocol.specs.Tables.{Table, course_at, course_place}
 use Rattle.protocol.specs.Worlds.{World}
 use Rattle.protocol.specs.Short.{short_course_place, wide_table, widen}
-use Rattle.protocol.proofs.Short.{set_course, short_course}
+use Rattle.protocol_ledger.proofs.Short.{set_course, short_course}
 use Rattle.cell_table.proofs.Shortness.{same_short_course}
-use Rattle.protocol.proofs.Readings.{course_inside}
+use Rattle.protocol_ledger.proofs.Readings.{course_inside}
 use Rattle.cell_table.specs.declared.view.View.{View}
 use Rattle.cell_table.specs.declared.view.Shape.{Shape}
 use Rattle.cell_table.specs.Sight.{Has, IsStand}

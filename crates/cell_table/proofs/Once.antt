@@ -17,10 +17,10 @@ use Rattle.protocol.specs.Growing.{GoesOn}
 use Rattle.protocol.specs.Tables.{cell_at, course_at, is_taken, joined_at, last_stamp, marks_at, synched_of}
 use Rattle.protocol.specs.Worlds.{World, Allowed, HasEnded, Plays, after_step, ended_at, with_take}
 use Rattle.protocol.specs.Kept.{Kept}
-use Rattle.protocol.proofs.Keeping.{cells_taken, end_in_range, kept_schedule, stamp_in_range, stands_inside}
-use Rattle.protocol.proofs.Onward.{grows-step, taken-step}
-use Rattle.protocol.proofs.Readings.{course_lived}
-use Rattle.protocol.proofs.RowLemmas.{put_same}
+use Rattle.protocol_ledger.proofs.Keeping.{cells_taken, end_in_range, kept_schedule, stamp_in_range, stands_inside}
+use Rattle.protocol_ledger.proofs.Onward.{grows-step, taken-step}
+use Rattle.protocol_ledger.proofs.Readings.{course_lived}
+use Rattle.protocol_ledger.proofs.RowLemmas.{put_same}
 use Rattle.cell_table.specs.declared.view.View.{View}
 use Rattle.cell_table.specs.Sight.{Has}
 use Rattle.cell_table.specs.Rule.{Interleaves, Move, at_seat, in_order, steps_by}

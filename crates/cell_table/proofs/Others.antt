@@ -19,10 +19,10 @@ use Rattle.protocol.specs.Tables.{course_at, Table, bound_row, is_row, row_eq, c
 use Rattle.protocol_values.specs.Values.{joined_of}
 use Rattle.protocol.specs.Worlds.{World, holder_at, with_word, with_cell, with_table, first_row}
 use Rattle.protocol.specs.Kept.{Kept}
-use Rattle.protocol.proofs.Keeping.{held_row}
-use Rattle.protocol.proofs.RowLemmas.{row_cases, row_eq-false, row_eq-true, row_ne, put, put_same, put_other}
-use Rattle.protocol.proofs.Places.{word_other, is_row_after}
-use Rattle.protocol.proofs.Readings.{cell_after_cell, cell_after_word, row_of_open, binding_after_cell, binding_after_word, bound_is, carried_after_cell, carried_after_word, carried_is, course_after_cell, course_after_word}
+use Rattle.protocol_ledger.proofs.Keeping.{held_row}
+use Rattle.protocol_ledger.proofs.RowLemmas.{row_cases, row_eq-false, row_eq-true, row_ne, put, put_same, put_other}
+use Rattle.protocol_ledger.proofs.Places.{word_other, is_row_after}
+use Rattle.protocol_ledger.proofs.Readings.{cell_after_cell, cell_after_word, row_of_open, binding_after_cell, binding_after_word, bound_is, carried_after_cell, carried_after_word, carried_is, course_after_cell, course_after_word}
 use Rattle.cell_table.specs.declared.view.Seen.{Seen}
 use Rattle.cell_table.specs.Sight.{Has, IsCounted, see_begun, see_bound, see_carried, see_course, see_word, without}
 use Rattle.protocol.specs.Acting.{EndsAt, HasStart}
@@ -43,7 +43,7 @@ left r p [] q o x else_where h = absurd h
 left r p (d ∷ ds) q o x else_where h = left_one r p d ds q o x (row_eq d.0 r && eqb d.1 p) refl else_where (λ i. left r p ds q o x else_where i) h
 
 holder_kept : (w : World) (t : Table) (r : Row) → t.threads ≡ w.table.threads → t.rows ≡ w.table.rows → holder_at (with_table w t) r ≡ holder_at w r
-holder_kept = Rattle.protocol.proofs.Keeping.holder_same
+holder_kept = Rattle.protocol_ledger.proofs.Keeping.holder_same
 
 -- A CELL IS WRITTEN: the row x, which was not joined, is open from then on
 module _ (w : World) (x : Row) (c : Cell) (owner : Row → ℕ) (k : Kept w)
@@ -472,7 +472,7 @@ module _ (w : World) (x : Row) (p d : ℕ) (owner : Row → ℕ) (k : Kept w)
         drafted_now : (r : Row) (q y : ℕ) → Has ((x, p, d) ∷ without x p v.seen.drafts) (r, q, y) → (owner r ≡ id) × (q < 34) × (1 ≤ q) × (holder_at w r ≡ Some v.seat) × (word_at (with_word w.table x p d) r q ≡ y)
         drafted_now r q y (inl e) =
             subst (λ (z : Row × ℕ × ℕ). (owner z.0 ≡ id) × (z.1 < 34) × (1 ≤ z.1) × (holder_at w z.0 ≡ Some v.seat) × (word_at (with_word w.table x p d) z.0 z.1 ≡ z.2)) e
-            (mine, high, low, holds, Rattle.protocol.proofs.Places.word_same w.table x p d k.sized row high)
+            (mine, high, low, holds, Rattle.protocol_ledger.proofs.Places.word_same w.table x p d k.sized row high)
         drafted_now r q y (inr h) =
             let was = kept_drafts v.seen.drafts r q y h in
             let k = knows.drafted r q y was.0 in

@@ -7,7 +7,7 @@ use Rattle.protocol_values.specs.declared.Message.{Message}
 use Rattle.protocol_values.specs.declared.Offer.{Offer}
 use Rattle.protocol_values.specs.declared.Row.{Row}
 use Rattle.protocol_values.specs.declared.Joined.{Joined}
-use Rattle.protocol.proofs.Linking.{some_inj}
+use Rattle.protocol_ledger.proofs.Linking.{some_inj}
 use Rattle.cell_table.specs.declared.view.Seen.{Seen}
 use Rattle.cell_table.specs.Sight.{Has, HaveOffer, SeesOffer, Gets, IsResult, Learns, Coherent, atoms_behind}
 use Rattle.cell_table.proofs.Offers.{offer_parts, same_read, sees_more}

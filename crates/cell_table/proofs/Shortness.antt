@@ -3,8 +3,8 @@ use Rattle.std.proofs.Common.{◌≡◌, ℕ, ◌+◌, ◌*◌, ◌<◌, arith}
 use Rattle.protocol_values.specs.declared.NackName.{NackName}
 use Rattle.protocol_values.specs.declared.Row.{Row}
 use Rattle.protocol.specs.Short.{row_len, short_course_place, short_len, short_nack_place, short_place}
-use Rattle.protocol.proofs.Places.{block_inside, same_block, same_rest}
-use Rattle.protocol.proofs.RowLemmas.{same_row}
+use Rattle.protocol_ledger.proofs.Places.{block_inside, same_block, same_rest}
+use Rattle.protocol_ledger.proofs.RowLemmas.{same_row}
 use Rattle.cell_table.specs.Told.{Inside, InsideNack}
 
 pub same_short : (offers threads rows : ℕ) (r q : Row) (p o : ℕ) → Inside threads rows r → Inside threads rows q → p < row_len offers → o < row_len offers → short_place offers rows r p ≡ short_place offers rows q o → (r ≡ q) × (p ≡ o)

@@ -17,10 +17,10 @@ use Rattle.protocol.specs.Ledgers.{IsLawful, Ledger, binding_in, joined_in, ledg
 use Rattle.protocol.specs.Standing.{AreResults, EachStands, IsLeft, OffersAs, Receives, Result, SomeStands, Stands, binding_of}
 use Rattle.protocol.specs.Tables.{Table, binding_at, bound_row, cell_at, is_fresh, joined_at, offer_at}
 use Rattle.protocol.specs.Worlds.{World, nack_of_row}
-use Rattle.protocol.proofs.Chosen.{chosen}
-use Rattle.protocol.proofs.LedgerLemmas.{binding_in_ledger, joined_in_ledger, lawful_ledger, offer_in_ledger}
-use Rattle.protocol.proofs.Linking.{some_parts}
-use Rattle.protocol.proofs.Results.{one-results, results-end}
+use Rattle.protocol_ledger.proofs.Chosen.{chosen}
+use Rattle.protocol_ledger.proofs.LedgerLemmas.{binding_in_ledger, joined_in_ledger, lawful_ledger, offer_in_ledger}
+use Rattle.protocol_ledger.proofs.Linking.{some_parts}
+use Rattle.protocol_ledger.proofs.Results.{one-results, results-end}
 use Rattle.cell_table.specs.declared.view.Seen.{Seen}
 use Rattle.cell_table.specs.declared.view.View.{View}
 use Rattle.cell_table.specs.Rule.{IsReady}

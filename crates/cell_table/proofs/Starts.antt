@@ -23,15 +23,15 @@ use Rattle.protocol.specs.Ledgers.{LivesAt}
 use Rattle.protocol.specs.Standing.{Stands}
 use Rattle.protocol.specs.Tables.{Table, binding_at, bound_row, cell_at, course_at, course_place, is_fresh, is_row, is_taken, joined_at, last_stamp, marks_at, start_of}
 use Rattle.protocol.specs.Worlds.{Allowed, World, after_step, begun, first_row, holder_at, last_holder, with_course, with_holders, with_table}
-use Rattle.protocol.proofs.Keeping.{begun_held, begun_other, holder_same, rows_lived, stamp_in_range, threads_lived}
-use Rattle.protocol.proofs.Linking.{cases_Option, some_parts}
-use Rattle.protocol.proofs.Onward.{grows-step}
+use Rattle.protocol_ledger.proofs.Keeping.{begun_held, begun_other, holder_same, rows_lived, stamp_in_range, threads_lived}
+use Rattle.protocol_ledger.proofs.Linking.{cases_Option, some_parts}
+use Rattle.protocol_ledger.proofs.Onward.{grows-step}
 use Rattle.protocol.specs.Short.{short_course_place}
-use Rattle.protocol.proofs.Places.{row_from, word_lived}
-use Rattle.protocol.proofs.Short.{short_course}
+use Rattle.protocol_ledger.proofs.Places.{row_from, word_lived}
+use Rattle.protocol_ledger.proofs.Short.{short_course}
 use Rattle.cell_table.proofs.Shortness.{same_short_course}
-use Rattle.protocol.proofs.Readings.{binding_after_life, carried_after_life, cell_after_life, course_inside, course_lived, course_lived_other}
-use Rattle.protocol.proofs.RowLemmas.{put, put_other, put_same, row_ne}
+use Rattle.protocol_ledger.proofs.Readings.{binding_after_life, carried_after_life, cell_after_life, course_inside, course_lived, course_lived_other}
+use Rattle.protocol_ledger.proofs.RowLemmas.{put, put_other, put_same, row_ne}
 use Rattle.cell_table.specs.declared.view.Shape.{Shape}
 use Rattle.cell_table.specs.declared.view.Stage.TheVariants.{Aside, Left, Resting}
 use Rattle.cell_table.specs.declared.view.View.{View}

@@ -14,11 +14,11 @@ use Rattle.protocol_values.specs.declared.Step.TheVariants.{Draft, Open, Look, R
 use Rattle.protocol.specs.Kept.{Kept}
 use Rattle.protocol.specs.Tables.{all_rows, cause_at, cell_at, course_at, is_fresh, is_row, is_taken, joined_at, last_stamp, marks_at, row_eq, synched_of}
 use Rattle.protocol.specs.Worlds.{Allowed, Condition, World, after_step, ended_at, granted_by, joined_with, mirrored, nack_of_row, namer_at, sealed_by, with_cell, with_seal, with_take}
-use Rattle.protocol.proofs.Keeping.{grant_in_range, held_row, join_in_range, nack_of_thread, seal_in_range, sealed_is, sealing, synched_is, waits_unjoined}
-use Rattle.protocol.proofs.Linking.{some_parts}
-use Rattle.protocol.proofs.Naming.{namer_names}
-use Rattle.protocol.proofs.Readings.{cell_after_bind, cell_after_cell, cell_after_life, cell_after_word, joined_ranged, row_of_open}
-use Rattle.protocol.proofs.RowLemmas.{put, put_other, put_same, row_cases}
+use Rattle.protocol_ledger.proofs.Keeping.{grant_in_range, held_row, join_in_range, nack_of_thread, seal_in_range, sealed_is, sealing, synched_is, waits_unjoined}
+use Rattle.protocol_ledger.proofs.Linking.{some_parts}
+use Rattle.protocol_ledger.proofs.Naming.{namer_names}
+use Rattle.protocol_ledger.proofs.Readings.{cell_after_bind, cell_after_cell, cell_after_life, cell_after_word, joined_ranged, row_of_open}
+use Rattle.protocol_ledger.proofs.RowLemmas.{put, put_other, put_same, row_cases}
 
 abbrev WasTaken : World → Row → Type 0
 WasTaken w r = is_taken (cell_at w.table r) ≡ true

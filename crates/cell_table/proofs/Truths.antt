@@ -17,12 +17,12 @@ use Rattle.protocol_values.specs.declared.Course.{Course}
 use Rattle.protocol_values.specs.declared.Course.TheVariants.{Unstarted, Running, Ended}
 use Rattle.protocol.specs.Worlds.{World, joined_with, granted_by}
 use Rattle.protocol.specs.Kept.{IsFormed, Kept, IsSideOf}
-use Rattle.protocol.proofs.Readings.{count_open, row_of_open, offer_none, joined_ranged, nack_of_bound, binding_ranged, bound_uncarried, carried_is, says_outside}
-use Rattle.protocol.proofs.Places.{nack_inside, row_inside}
-use Rattle.protocol.proofs.Causes.{cause_alone, enabled_at_from}
-use Rattle.protocol.proofs.Linking.{fresh_not_joined, some_inj, naming, partner_open, cases_Option}
-use Rattle.protocol.proofs.Lawfulness.{chosen_there}
-use Rattle.protocol.proofs.Keeping.{IsUnjoined, next_cause, next_last, taken_before, held_row, granted_is}
+use Rattle.protocol_ledger.proofs.Readings.{count_open, row_of_open, offer_none, joined_ranged, nack_of_bound, binding_ranged, bound_uncarried, carried_is, says_outside}
+use Rattle.protocol_ledger.proofs.Places.{nack_inside, row_inside}
+use Rattle.protocol_ledger.proofs.Causes.{cause_alone, enabled_at_from}
+use Rattle.protocol_ledger.proofs.Linking.{fresh_not_joined, some_inj, naming, partner_open, cases_Option}
+use Rattle.protocol_ledger.proofs.Lawfulness.{chosen_there}
+use Rattle.protocol_ledger.proofs.Keeping.{IsUnjoined, next_cause, next_last, taken_before, held_row, granted_is}
 use Rattle.cell_table.specs.declared.view.View.{View}
 use Rattle.cell_table.specs.Sight.{Has, HaveDirection, HaveOffer, HasSeenLast, CanJoin, IsDraft, SawChosen, SeesNoOffer, SeesOffer, Coherent, next_stamp}
 use Rattle.protocol.specs.Acting.{EndsAt}
@@ -30,7 +30,7 @@ use Rattle.cell_table.specs.Nacks.{CanGrant, SawCause, SawEnabled}
 use Rattle.cell_table.specs.Views.{Knows, behind_last}
 use Rattle.cell_table.specs.Told.{Agrees, AgreesWithItself}
 use Rattle.cell_table.proofs.Courses.{ended_within, fresh_is, has_ended, has_started, one_end_of, opened_before, taken_below}
-use Rattle.protocol.proofs.Acting.{start_is}
+use Rattle.protocol_ledger.proofs.Acting.{start_is}
 use Rattle.cell_table.proofs.Following.{place_behind, place_last}
 use Rattle.cell_table.proofs.Directions.{GoesIn, offer_headed, offers_meet_as}
 use Rattle.cell_table.proofs.Offers.{atom_place, few, same_read}

@@ -17,10 +17,10 @@ use Rattle.protocol.specs.Standing.{AreResults, Result, Stands}
 use Rattle.protocol.specs.Tables.{Table}
 use Rattle.protocol.specs.Openings.{HadEnded, HadStarted, Opening, greatest}
 use Rattle.protocol.specs.Worlds.{World, Allowed, after_step}
-use Rattle.protocol.proofs.Acting.{ends-step, starts-step}
-use Rattle.protocol.proofs.Onward.{grows-step}
-use Rattle.protocol.proofs.Standing.{results-stay}
-use Rattle.protocol.proofs.Playing.{plays_more}
+use Rattle.protocol_ledger.proofs.Acting.{ends-step, starts-step}
+use Rattle.protocol_ledger.proofs.Onward.{grows-step}
+use Rattle.protocol_ledger.proofs.Standing.{results-stay}
+use Rattle.protocol_ledger.proofs.Playing.{plays_more}
 use Rattle.cell_table.specs.declared.view.View.{View}
 use Rattle.cell_table.specs.declared.view.Shape.{Shape}
 use Rattle.cell_table.specs.Sight.{Has}
@@ -28,8 +28,8 @@ use Rattle.cell_table.specs.Told.{AgreesWithItself}
 use Rattle.cell_table.specs.Views.{Knows, did, opening_in}
 use Rattle.cell_table.proofs.Truths.{with_itself}
 use Rattle.protocol.specs.Kept.{Kept}
-use Rattle.protocol.proofs.Keeping.{kept_schedule}
-use Rattle.protocol.proofs.LedgerLemmas.{kept_opening}
+use Rattle.protocol_ledger.proofs.Keeping.{kept_schedule}
+use Rattle.protocol_ledger.proofs.LedgerLemmas.{kept_opening}
 use Rattle.cell_table.specs.Rule.{Housed, Interleaves, IsActing, IsToBegin, Keeps, Move, at_seat, beginning, in_order, steps_by}
 use Rattle.cell_table.proofs.Courses.{KeepsLives, plain_lives}
 use Rattle.protocol.specs.Short.{wide_table}

@@ -12,8 +12,8 @@ use Rattle.protocol_values.specs.declared.Step.TheVariants.{Open, Take}
 use Rattle.protocol.specs.Kept.{Kept}
 use Rattle.protocol.specs.Tables.{cell_at, is_fresh, is_taken}
 use Rattle.protocol.specs.Worlds.{Allowed, Plays, World, after_step}
-use Rattle.protocol.proofs.Keeping.{kept_schedule}
-use Rattle.protocol.proofs.Onward.{grows-step, opens-step}
+use Rattle.protocol_ledger.proofs.Keeping.{kept_schedule}
+use Rattle.protocol_ledger.proofs.Onward.{grows-step, opens-step}
 use Rattle.cell_table.specs.declared.view.Stage.TheVariants.{Aside, Left, Resting}
 use Rattle.cell_table.specs.declared.view.View.{View}
 use Rattle.cell_table.specs.Closings.{MadeBy}

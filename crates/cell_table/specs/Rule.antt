@@ -15,7 +15,7 @@ use Rattle.protocol_values.specs.declared.Offer.{Offer}
 use Rattle.protocol.specs.Acting.{EachEnded, EachStarted, acts_in}
 use Rattle.protocol.specs.Ledgers.{Ledger, ledger_of}
 use Rattle.protocol.specs.Standing.{AreResults, EachStands, OffersAs, Result, SomeStands, Stands, binding_of}
-use Rattle.protocol.specs.declared.opening.Life.TheVariants.{Ended}
+use Rattle.protocol_ledger.specs.declared.opening.Life.TheVariants.{Ended}
 use Rattle.protocol.specs.Openings.{Begins, HadEnded, HadStarted, IsOpening, Opening, greatest, is_running, start_opening, thread_in}
 use Rattle.protocol.specs.Worlds.{World, first_row, Plays, nack_of_row}
 use Rattle.cell_table.specs.declared.view.Seen.{Seen}

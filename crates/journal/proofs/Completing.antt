@@ -20,6 +20,7 @@ use Rattle.journal_order.proofs.Leading.{ledger-is-run}
 use Rattle.journal_order.proofs.Ordering.{ordered-is-run}
 use Rattle.journal_order.proofs.Runs.{run-front}
 use Rattle.journal_order.specs.Ledgers.{IsLedgerOf}
+use Rattle.journal.proofs.Reordering.{stands-reordered}
 use Rattle.journal.specs.Records.{IsCompletion, IsOrdering, RefusesRun}
 
 tells-ends : (ps : List Proc) (rows : ℕ) (journal : List Commit) (s : State) (ends : List End) (outputs : List (List Atom)) → StandsAfter ps rows journal s → EndsOf s ends → OutputsOf s outputs →
@@ -35,13 +36,14 @@ tells-ends ps rows journal s ends outputs stands ended printed = record {
 
 pub completes : (ps : List Proc) (rows : ℕ) (given commits added journal : List Commit) (s : State) (ends : List End) (outputs : List (List Atom)) (tail : ℕ) →
     IsOrdering given commits → IsRun ps rows commits → StandsAfter ps rows (commits ++ added) s → IsMaximal ps rows (config_of (commits ++ added)) →
-    IsPermutation (commits ++ added) journal → IsInOrder journal → EndsOf s ends → OutputsOf s outputs → length added ≡ tail → IsCompletion ps rows given journal ends outputs tail
+    IsPermutation (commits ++ added) journal → IsInOrder journal → EndsOf s ends → OutputsOf s outputs → length added ≡ tail → IsCompletion ps rows given journal s ends outputs tail
 completes ps rows given commits added journal s ends outputs tail order run stands maximal moved sorted ended printed count =
     let ordered = ordered-is-run ps rows (commits ++ added) journal stands.run moved sorted in
     record {
       run = ordered.0;
       in_order = sorted;
       maximal = subst (IsMaximal ps rows) (sym ordered.1) maximal;
+      stands = stands-reordered ps rows (commits ++ added) journal s moved ordered.1 ordered.0 stands;
       ends_are = subst (λ (config : Config). TellsEnds ps rows config ends outputs) (sym ordered.1) (tells-ends ps rows (commits ++ added) s ends outputs stands ended printed);
       given_run = (commits, order, run);
       received = λ t chan. named-is-received ps rows journal ordered.0 t chan ∙ received-is-sent ps rows journal ordered.0 t chan;

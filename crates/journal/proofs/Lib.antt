@@ -1,2 +1,3 @@
 pub mod Completing
+mod Reordering
 mod Telling

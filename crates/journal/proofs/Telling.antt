@@ -6,6 +6,8 @@ use Rattle.std.proofs.lemmas.List.{length-set, length_push}
 use Rattle.std.proofs.lemmas.List.Sorted.{Contains-permutation, IsPermutation-sym}
 use Rattle.std.specs.Prelude.{IsPermutation, option_and_then}
 use Rattle.script_tree.specs.Processes.{Proc}
+use Rattle.script_tree.specs.declared.tree.Block.{Block as Tree}
+use Rattle.journal_replay.specs.Lines.{RunTheirs}
 use Rattle.thread.specs.After.{Chosen}
 use Rattle.thread.specs.Machines.{Thread}
 use Rattle.protocol_values.specs.declared.Commit.{Commit}
@@ -13,10 +15,10 @@ use Rattle.protocol_values.specs.declared.NackName.{NackName}
 use Rattle.protocol_values.specs.Commits.{stamp_of}
 use Rattle.protocol.specs.Ledgers.{IsLawful, Ledger}
 use Rattle.protocol.specs.Openings.{HadStarted, Opening, thread_in}
-use Rattle.protocol.specs.declared.opening.Life.{Life}
-use Rattle.protocol.specs.declared.opening.Life.TheVariants.{Ended, Running, Unstarted}
-use Rattle.protocol.specs.declared.opening.NackState.{NackState}
-use Rattle.protocol.specs.declared.opening.NackState.TheVariants.{Unbound}
+use Rattle.protocol_ledger.specs.declared.opening.Life.{Life}
+use Rattle.protocol_ledger.specs.declared.opening.Life.TheVariants.{Ended, Running, Unstarted}
+use Rattle.protocol_ledger.specs.declared.opening.NackState.{NackState}
+use Rattle.protocol_ledger.specs.declared.opening.NackState.TheVariants.{Unbound}
 use Rattle.journal_order.specs.Behind.{TellsRun, nack_state}
 use Rattle.journal_order.specs.Laws.{IsOrderOf}
 use Rattle.journal_order.specs.Ledgers.{IsLedgerOf, fired_as}
@@ -27,7 +29,17 @@ use Rattle.journal_replay.specs.Gathering.{AreKnown, HasGone, IsKnown, KnowsLast
 use Rattle.journal_replay.specs.Runs.{Config, CountsOf, HasThread, IsGreatest, Starts, config_of}
 use Rattle.journal_replay.specs.Starting.{HasEnded}
 use Rattle.journal_replay.specs.Standing.{KnowsNack}
-use Rattle.journal.specs.Concluding.{AreGone, AreStanding, EachKnownBy, KnownBy, fired_in, last_if, last_in}
+use Rattle.journal.specs.Concluding.{AreGone, AreStanding, EachKnownBy, KnownBy, RunTrees, fired_in, last_if, last_in}
+
+-- what is known runs the trees that the machines run
+known-tree : (trees : List Tree) (machines : List (Option Thread)) (t : ℕ) (o : Option Thread) → slice_get machines t ≡ Some o → RunTrees trees machines → IfSome o (λ m. slice_get trees t ≡ Some m.body)
+known-tree trees machines t None is run = tt
+known-tree trees machines t (Some m) is run = run t m is
+
+pub known-trees : (threads : List (Life × ℕ)) (states : List NackState) (trees : List Tree) (machines : List (Option Thread)) (known : List Known) → EachKnownBy threads states machines known → RunTrees trees machines → RunTheirs trees known
+known-trees threads states trees machines known are run t k at =
+    let w = are.1 t k at in
+    subst (λ (o : Option Thread). IfSome o (λ m. slice_get trees t ≡ Some m.body)) (sym w.2.machine) (known-tree trees machines t w.0 w.1 run)
 
 -- what is known of one thread more
 pub known-more : (threads : List (Life × ℕ)) (states : List NackState) (machines : List (Option Thread)) (known : List Known) (m : Option Thread) (k : Known) → EachKnownBy threads states machines known → KnownBy threads states (length known) m k →

@@ -1,12 +1,13 @@
 -- What the machines of a run's end, and its ledger, tell of each thread.
 use Rattle.std.specs.Prelude.{◌≡◌, ◌+◌, ◌*◌, ◌≤◌, if◌then◌else◌, ℕ, List, Contains, Option, Some, None, length, nat_lt, option_and_then, slice_get, slice_index_or, take}
 use Rattle.script_tree.specs.Processes.{Proc}
+use Rattle.script_tree.specs.declared.tree.Block.{Block as Tree}
 use Rattle.thread.specs.Machines.{Thread}
 use Rattle.protocol.specs.Ledgers.{Ledger}
 use Rattle.protocol.specs.Standing.{AreResults}
-use Rattle.protocol.specs.declared.opening.Life.{Life}
-use Rattle.protocol.specs.declared.opening.Life.TheVariants.{Unstarted, Running, Ended}
-use Rattle.protocol.specs.declared.opening.NackState.{NackState}
+use Rattle.protocol_ledger.specs.declared.opening.Life.{Life}
+use Rattle.protocol_ledger.specs.declared.opening.Life.TheVariants.{Unstarted, Running, Ended}
+use Rattle.protocol_ledger.specs.declared.opening.NackState.{NackState}
 use Rattle.journal_order.specs.Ledgers.{fired_as}
 use Rattle.journal_replay.specs.declared.strand.Known.{Known}
 use Rattle.protocol_values.specs.declared.Commit.{Commit}
@@ -29,6 +30,10 @@ AreStanding ps l machines = (length machines ≡ length ps) × ((t : ℕ) (m : T
 -- one place for each thread, and what lies there stands after some of the results that the commits give to its thread
 abbrev pub AreGone : List Proc → List Commit → List (Option Thread) → Type 0
 AreGone ps commits machines = (length machines ≡ length ps) × ((t : ℕ) (m : Thread) → slice_get machines t ≡ Some (Some m) → HasGone ps t (config_of commits t) m)
+
+-- each machine runs the tree at its thread's place
+abbrev pub RunTrees : List Tree → List (Option Thread) → Type 0
+RunTrees trees machines = (t : ℕ) (m : Thread) → slice_get machines t ≡ Some (Some m) → slice_get trees t ≡ Some m.body
 
 -- the last stamp of a thread that has started
 abbrev pub last_if : Life × ℕ → Option ℕ

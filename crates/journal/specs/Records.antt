@@ -19,11 +19,12 @@ pub record IsOrdering (given commits : List Commit) : Type 0 where
   pub all : IsPermutation given commits
   pub ordered : IsInOrder commits
 
--- The journal is a run in order, which can go no further.
-pub record IsCompletion (ps : List Proc) (rows : ℕ) (given journal : List Commit) (ends : List End) (outputs : List (List Atom)) (tail : ℕ) : Type 0 where
+-- The journal is a run in order, which can go no further; the state stands where it leads.
+pub record IsCompletion (ps : List Proc) (rows : ℕ) (given journal : List Commit) (state : State) (ends : List End) (outputs : List (List Atom)) (tail : ℕ) : Type 0 where
   pub run : IsRun ps rows journal
   pub in_order : IsInOrder journal
   pub maximal : IsMaximal ps rows (config_of journal)
+  pub stands : StandsAfter ps rows journal state
   pub ends_are : TellsEnds ps rows (config_of journal) ends outputs
   -- the given commits in order are a run
   pub given_run : (commits : List Commit) × IsOrdering given commits × IsRun ps rows commits
@@ -35,7 +36,7 @@ pub record IsCompletion (ps : List Proc) (rows : ℕ) (given journal : List Comm
   pub tail_is : length added ≡ tail
 
 abbrev pub CompletesRun : List Proc → ℕ → List Commit → Record → Type 0
-CompletesRun ps rows given r = IsCompletion ps rows given r.journal.items r.ends.items (map (λ v. v.items) r.outputs.items) r.tail
+CompletesRun ps rows given r = IsCompletion ps rows given r.journal.items r.state r.ends.items (map (λ v. v.items) r.outputs.items) r.tail
 
 -- the first so many of the given commits in order are a run, and with the next they are none
 abbrev pub RefusesRun : List Proc → ℕ → List Commit → ReplayFault → Type 0

@@ -3,12 +3,13 @@
 ghost use Rattle.std.specs.Prelude.{◌≡◌, ◌≤◌, ◌<◌, ℕ, IfOk, None, length, map, option_and_then, slice_get, slice_index_or};
 ghost use Rattle.journal_order.specs.Behind.{TellsRun};
 ghost use Rattle.journal_order.specs.Ledgers.{IsLedgerOf, fired_as};
+ghost use Rattle.journal_replay.specs.Lines.{trees_in};
 ghost use Rattle.journal_replay.specs.Runs.{IsRun};
 ghost use Rattle.protocol.specs.Openings.{opening_of};
 ghost use Rattle.protocol_values.specs.Commits.{IsInOrder};
-ghost use Rattle.script_tree.specs.Processes.{proc_of};
+ghost use Rattle.script_tree.specs.Processes.{proc_of, tree_of};
 ghost use Rattle.script_tree.specs.Spawning.{IsPlaced};
-ghost use Rattle.journal.specs.Concluding.{AreGone, AreStanding, EachKnownBy, fired_in, last_in};
+ghost use Rattle.journal.specs.Concluding.{AreGone, AreStanding, EachKnownBy, RunTrees, fired_in, last_in};
 ghost use Rattle.journal.specs.Records.{Completes, CompletesOrdered, CompletesRun, IsOrdering};
 
 use crate::record::{Record, record_of};
@@ -40,7 +41,8 @@ pub fn conclude(
     requires placed { IsPlaced (map proc_of processes.now) }
     requires of { IsLedgerOf (map proc_of processes.now) ledger.now × (ledger.now.rows ≤ rows) }
     requires machines { AreStanding (map proc_of processes.now) ledger.now machines.items }
-    ensures { IfOk result (Completes (map proc_of processes.now) rows ledger.now) }
+    ensures completes { IfOk result (Completes (map proc_of processes.now) rows ledger.now) }
+    ensures trees { IfOk result (λ r. RunTrees (map tree_of processes.now) machines.items → trees_in r.state ≡ map tree_of processes.now) }
 {
     let commits = ledger.commits()?;
     let opening = ledger.opening_by(&commits)?;
@@ -63,7 +65,8 @@ pub fn conclude_run(
     requires run { IsRun (map proc_of processes.now) rows commits.items }
     requires told { TellsRun (map proc_of processes.now) commits.items (opening_of opening.now) }
     requires machines { AreGone (map proc_of processes.now) commits.items machines.items }
-    ensures { IfOk result (CompletesRun (map proc_of processes.now) rows commits.items) }
+    ensures completes { IfOk result (CompletesRun (map proc_of processes.now) rows commits.items) }
+    ensures trees { IfOk result (λ r. RunTrees (map tree_of processes.now) machines.items → trees_in r.state ≡ map tree_of processes.now) }
 {
     let commits = ordered(commits)?;
     conclude_ordered(alloc, processes, rows, commits, opening, machines)
@@ -80,7 +83,8 @@ pub fn retrace_run(
     requires rows { rows ≤ 67107840 }
     requires placed { IsPlaced (map proc_of processes.now) }
     requires run { IsRun (map proc_of processes.now) rows commits.items }
-    ensures { IfOk result (CompletesRun (map proc_of processes.now) rows commits.items) }
+    ensures completes { IfOk result (CompletesRun (map proc_of processes.now) rows commits.items) }
+    ensures trees { IfOk result (λ r. trees_in r.state ≡ map tree_of processes.now) }
 {
     let commits = ordered(commits)?;
     let state = retrace(alloc, processes, rows, &commits)?;
@@ -111,7 +115,8 @@ fn conclude_ordered(
     requires run { IsRun (map proc_of processes.now) rows commits.items }
     requires told { TellsRun (map proc_of processes.now) commits.items (opening_of opening.now) }
     requires machines { AreGone (map proc_of processes.now) commits.items machines.items }
-    ensures { IfOk result (CompletesOrdered (map proc_of processes.now) rows commits.items) }
+    ensures completes { IfOk result (CompletesOrdered (map proc_of processes.now) rows commits.items) }
+    ensures trees { IfOk result (λ r. RunTrees (map tree_of processes.now) machines.items → trees_in r.state ≡ map tree_of processes.now) }
 {
     let known = known_by(alloc, opening, machines)?;
     let state = gather(alloc, processes, rows, &commits, known)?;

@@ -33,12 +33,12 @@ use Rattle.protocol.specs.Ledgers as ledgers
 use Rattle.protocol.specs.Ledgers.{CountsThread, Ledger, LivesAt, HasCommit, Involves, IsEnabled, IsEnabledHere, IsLawful, Takes, binding_in, carried_in, commits_in, course_in, has_row, joined_in, marks_in, no_entry, offer_in}
 use Rattle.protocol.specs.Openings.{IsDead}
 use Rattle.protocol.specs.Tables.{bound_row, number_of, start_of}
-use Rattle.protocol.proofs.Acting.{start_is}
-use Rattle.protocol.proofs.Closing.{carried_unbound}
-use Rattle.protocol.proofs.CommitLemmas.{commit_members}
-use Rattle.protocol.proofs.Lawfulness.{counts_own}
-use Rattle.protocol.proofs.Ordering.{causal_ledger, lower_first}
-use Rattle.protocol.proofs.Results.{gift, gives-involves, one-list, one-result}
+use Rattle.protocol_ledger.proofs.Acting.{start_is}
+use Rattle.protocol_ledger.proofs.Closing.{carried_unbound}
+use Rattle.protocol_ledger.proofs.CommitLemmas.{commit_members}
+use Rattle.protocol_ledger.proofs.Lawfulness.{counts_own}
+use Rattle.protocol_ledger.proofs.Ordering.{causal_ledger, lower_first}
+use Rattle.protocol_ledger.proofs.Results.{gift, gives-involves, one-list, one-result}
 use Rattle.journal_replay.specs.Runs.{CausedBy, Config, CountsFor, CountsOf, FiredAt, Follows, HasRow, HasThread, IsCaused, IsFiredAt, IsGreatest, IsLegal, IsOffering, IsRow, IsRun, MayTake, applied, config_of, no_results}
 use Rattle.journal_replay.specs.Starting.{AtOnce, CountsForStart, HasEnded, HasSpawned, InRow, InStart, Spawned, SpawnsAt, Starts}
 use Rattle.journal_replay.specs.Standing.{KnowsNack}
@@ -53,7 +53,7 @@ use Rattle.journal_order.specs.Behind.{GoesOn, IsBehind, OfEach, RunsBehind, Tel
 use Rattle.journal_order.specs.Laws.{IsOrderOf}
 use Rattle.protocol.specs.Standing.{AreResults, Gives, OffersAs, binding_of}
 use Rattle.journal_order.specs.Ledgers.{IsLedgerOf, nothing_before, LedgerIsRun, LedgersTell, ProcessSpawns, TellsNacks, TellsResults, TellsStamps, TellsStarts, fired_as}
-use Rattle.protocol.specs.declared.opening.NackState.TheVariants.{Dead, Enabled, Unbound, Unsettled}
+use Rattle.protocol_ledger.specs.declared.opening.NackState.TheVariants.{Dead, Enabled, Unbound, Unsettled}
 use Rattle.journal_order.proofs.Nacks.{fired-once}
 use Rattle.journal_order.proofs.Results.{rows-within}
 use Rattle.journal_order.proofs.Runs.{RunsOn, get-take, run-from}

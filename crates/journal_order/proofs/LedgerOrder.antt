@@ -10,8 +10,8 @@ use Rattle.protocol_values.specs.declared.Commit.{Commit}
 use Rattle.protocol_values.specs.declared.Row.{Row}
 use Rattle.protocol_values.specs.Commits.{first_row, first_thread, stamp_of}
 use Rattle.protocol.specs.Ledgers.{Ledger, HasCommit, Involves, IsLawful, commits_in, joined_in, offer_in, rows_in}
-use Rattle.protocol.proofs.CommitLemmas.{commit_told}
-use Rattle.protocol.proofs.Ordering.{causal_ledger, first_involved}
+use Rattle.protocol_ledger.proofs.CommitLemmas.{commit_told}
+use Rattle.protocol_ledger.proofs.Ordering.{causal_ledger, first_involved}
 use Rattle.journal_order.specs.Laws.{IsOrderOf, OneLedgerOrder}
 use Rattle.journal_order.proofs.Unique.{ascends-from-order, one-list, same_key}
 

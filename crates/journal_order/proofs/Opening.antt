@@ -13,10 +13,10 @@ use Rattle.protocol.specs.Acting.{Before, EndsAt, HasStart, before_of}
 use Rattle.protocol.specs.Ledgers.{Ledger, binding_in, carried_in, course_in, nack_in}
 use Rattle.protocol.specs.Openings.{IsLastStamp, Opening, TellsEnd, TellsNack, life_of, state_in, thread_in, word_for}
 use Rattle.protocol.specs.Tables.{bound_by, carried_by, start_of}
-use Rattle.protocol.specs.declared.opening.Life.{Life}
-use Rattle.protocol.specs.declared.opening.Life.TheVariants.{Ended, Running, Unstarted}
-use Rattle.protocol.specs.declared.opening.NackState.{NackState}
-use Rattle.protocol.specs.declared.opening.NackState.TheVariants.{Dead, Enabled, Unbound, Unsettled}
+use Rattle.protocol_ledger.specs.declared.opening.Life.{Life}
+use Rattle.protocol_ledger.specs.declared.opening.Life.TheVariants.{Ended, Running, Unstarted}
+use Rattle.protocol_ledger.specs.declared.opening.NackState.{NackState}
+use Rattle.protocol_ledger.specs.declared.opening.NackState.TheVariants.{Dead, Enabled, Unbound, Unsettled}
 use Rattle.journal_replay.specs.Runs.{config_of}
 use Rattle.journal_replay.specs.Standing.{KnowsNack}
 use Rattle.journal_replay.specs.Starting.{HasEnded}

@@ -3,9 +3,9 @@ use Rattle.std.proofs.Common.{◌≡◌, ℕ, refl, ◌∙◌, arith}
 use Rattle.protocol.specs.Ledgers.{ledger_of}
 use Rattle.protocol.specs.Tables.{Table}
 use Rattle.protocol.specs.Worlds.{start_world}
-use Rattle.protocol.proofs.LedgerLemmas.{kept_start, lawful_from_start}
-use Rattle.protocol.proofs.Onward.{grows-schedule}
-use Rattle.protocol.proofs.Acting.{schedule-acts}
+use Rattle.protocol_ledger.proofs.LedgerLemmas.{kept_start, lawful_from_start}
+use Rattle.protocol_ledger.proofs.Onward.{grows-schedule}
+use Rattle.protocol_ledger.proofs.Acting.{schedule-acts}
 use Rattle.journal_order.specs.Ledgers.{ScheduleHasLedger, ScheduleIsRun, acts_of, nothing_before}
 use Rattle.journal_order.proofs.Leading.{ledger-is-run}
 

@@ -11,8 +11,8 @@ use Rattle.protocol.specs.Acting.{Acts, ActsAs, Before, EndsAt, HasStart, before
 use Rattle.protocol.specs.Ledgers.{HasCommit, Ledger, IsLawful, carried_in, course_in}
 use Rattle.protocol.specs.Openings.{HadEnded, HadStarted, IsLastStamp, Opening, TellsEnd, TellsNack, state_in, word_for}
 use Rattle.protocol.specs.Standing.{AreResults, Gives}
-use Rattle.protocol.specs.declared.opening.NackState.{NackState}
-use Rattle.protocol.specs.declared.opening.NackState.TheVariants.{Enabled, Unbound}
+use Rattle.protocol_ledger.specs.declared.opening.NackState.{NackState}
+use Rattle.protocol_ledger.specs.declared.opening.NackState.TheVariants.{Enabled, Unbound}
 use Rattle.protocol.specs.Tables.{carried_by}
 use Rattle.journal_replay.specs.Runs.{Config, CountsOf, HasThread, IsGreatest, IsRun, Starts, config_of}
 use Rattle.journal_replay.specs.Standing.{KnowsNack}

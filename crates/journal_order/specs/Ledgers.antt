@@ -14,8 +14,8 @@ use Rattle.protocol.specs.Acting.{Acts, ActsAs, Before, EachStepsAs, HasStart}
 use Rattle.protocol.specs.Ledgers.{Ledger, IsLawful, course_in, ledger_of}
 use Rattle.protocol.specs.Openings.{IsLastStamp, TellsNack}
 use Rattle.protocol.specs.Standing.{AreResults}
-use Rattle.protocol.specs.declared.opening.NackState.{NackState}
-use Rattle.protocol.specs.declared.opening.NackState.TheVariants.{Unbound, Unsettled, Dead, Enabled}
+use Rattle.protocol_ledger.specs.declared.opening.NackState.{NackState}
+use Rattle.protocol_ledger.specs.declared.opening.NackState.TheVariants.{Unbound, Unsettled, Dead, Enabled}
 use Rattle.protocol.specs.Worlds.{Plays, World, start_world, waits}
 use Rattle.journal_replay.specs.Runs.{CountsOf, IsGreatest, IsOffering, IsRun, Starts, config_of}
 use Rattle.journal_replay.specs.Standing.{KnowsNack}

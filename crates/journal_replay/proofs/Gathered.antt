@@ -20,11 +20,12 @@ use Rattle.protocol_values.specs.declared.Commit.{Commit}
 use Rattle.protocol_values.specs.declared.Commit.TheVariants.{Pair, Alone}
 use Rattle.protocol_values.specs.declared.Message.TheVariants.{Empty}
 use Rattle.protocol_values.specs.declared.Row.{Row}
-use Rattle.protocol_values.specs.Commits.{stamp_of}
+use Rattle.protocol_values.specs.declared.RowResult.{RowResult}
+use Rattle.protocol_values.specs.Commits.{gives, stamp_of}
 use Rattle.journal_replay.specs.declared.strand.Known.{Known}
 use Rattle.journal_replay.specs.declared.strand.Strand.{Strand}
 use Rattle.journal_replay.specs.declared.threads.Threads.{Threads}
-use Rattle.journal_replay.specs.Gathering.{AreGathered, AreKnown, CanGive, Gathers, GivesAll, GivesRow, GoesOn, HasBegun, HasGone, IsEarly, IsHad, IsKnown, IsOpenFor, KnowsLast, OneGoesOn, waits_if, waits_in}
+use Rattle.journal_replay.specs.Gathering.{AreGathered, AreKnown, CanGive, Gathers, GivesAll, GivesOne, GivesRow, GoesOn, HasBegun, HasGone, IsEarly, IsHad, IsKnown, IsOpenFor, KnowsLast, OneGoesOn, waits_if, waits_in}
 use Rattle.journal_replay.specs.Reaching.{AreAfter}
 use Rattle.journal_replay.specs.Runs.{Config, CanTake, CountsOf, HasThread, IsCaused, IsGreatest, IsLegal, IsRun, Starts, applied, config_from, config_of, message_by, no_results, with_result}
 use Rattle.journal_replay.specs.Searching.{Bounded, total}
@@ -270,6 +271,19 @@ leads-on commits i t =
     let is : config_of commits t ≡ config_from (config_of (take i commits)) (drop i commits) t =
     ap (λ (cs : List Commit). config_of cs t) (sym (take-append-drop i commits)) ∙ ap (λ (f : Config). f t) (config_from-append no_results (take i commits) (drop i commits)) in
     (w.0, is ∙ w.1)
+
+-- the receiver of a pair is still open, once its sender was given its result
+receiver-open : (sender receiver : Row × ℕ) (chosen : Chosen) (old middle : List Strand) → (sender.0.thread ≡ receiver.0.thread → ⊥) → IsOpenFor old receiver → GivesRow sender chosen old middle true → IsOpenFor middle receiver
+receiver-open sender receiver chosen old middle apart ready given s at next = ⊎_elim
+    (λ had. ready s (sym (ap (λ (l : List Strand). slice_get l receiver.0.thread) had.1) ∙ at) next)
+    (λ goes. ready s (sym (ap (λ (l : List Strand). slice_get l receiver.0.thread) goes.is ∙ set-other old sender.0.thread receiver.0.thread goes.behind (λ e. apart (sym e))) ∙ at) next)
+    given
+
+pub open-still : (c : Commit) (first second : RowResult) (old middle : List Strand) → gives c ≡ (first, Some second) → CanGive old c → GivesOne first old middle true → IsOpenFor middle second.at
+open-still (Pair sender receiver chan msg stamp) first second old middle is can given =
+    subst (λ (r : RowResult). IsOpenFor middle r.at) (same_Some _ second (ap (λ (z : RowResult × Option RowResult). z.1) is))
+    (receiver-open sender receiver (sender.1, Empty) old middle can.0 can.2 (subst (λ (r : RowResult). GivesOne r old middle true) (sym (ap (λ (z : RowResult × Option RowResult). z.0) is)) given))
+open-still (Alone at why stamp) first second old middle is can given = absurd (none-some second (ap (λ (z : RowResult × Option RowResult). z.1) is))
 
 pub can-give : (ps : List Proc) (rows : ℕ) (commits : List Commit) (i : ℕ) (d : Commit) (s : Threads) → IsRun ps rows commits → Gathering ps rows commits i s → i < length commits → slice_get commits i ≡ Some d → CanGive s.strands.items d
 can-give ps rows commits i d s run g lt is = can-give-at ps rows commits (config_of (take i commits)) d s.strands.items g.together (leads-on commits i) (run i d is).legal

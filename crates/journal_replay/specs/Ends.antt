@@ -1,8 +1,20 @@
 -- How a process stands, in words.
-use Rattle.std.specs.Prelude.{ℕ, List, codes}
+use Rattle.std.specs.Prelude.{ℕ, List, codes, Bool, true, false}
 use Rattle.thread.specs.declared.Fault.TheVariants.{Unset, Kind, Range, Shape}
 use Rattle.journal_replay.specs.declared.end.End.{End}
 use Rattle.journal_replay.specs.declared.end.End.TheVariants.{Ended, Waiting, Spent, Faulted, Unstarted}
+
+abbrev pub is_ended : End → Bool
+is_ended Ended = true
+is_ended end = false
+
+abbrev pub is_waiting : End → Bool
+is_waiting Waiting = true
+is_waiting end = false
+
+abbrev pub is_spent : End → Bool
+is_spent Spent = true
+is_spent end = false
 
 abbrev pub end_text : End → List ℕ
 end_text Ended = codes "ended"

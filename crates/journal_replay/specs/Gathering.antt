@@ -8,12 +8,13 @@ use Rattle.thread.specs.Machines.{Thread, HasStopped, IsAfter, SameProcess, Tell
 use Rattle.thread.specs.Memories.{AddsNew}
 use Rattle.protocol_values.specs.declared.Commit.{Commit}
 use Rattle.protocol_values.specs.declared.Commit.TheVariants.{Pair, Alone}
-use Rattle.protocol_values.specs.declared.Message.TheVariants.{Empty}
 use Rattle.protocol_values.specs.declared.Row.{Row}
+use Rattle.protocol_values.specs.declared.RowResult.{RowResult}
+use Rattle.protocol_values.specs.Commits.{gives}
 use Rattle.journal_replay.specs.declared.strand.Known.{Known}
 use Rattle.journal_replay.specs.declared.strand.Strand.{Strand}
 use Rattle.journal_replay.specs.declared.threads.Threads.{Threads}
-use Rattle.journal_replay.specs.Runs.{CountsOf, HasThread, IsGreatest, Starts, config_of, message_by}
+use Rattle.journal_replay.specs.Runs.{CountsOf, HasThread, IsGreatest, Starts, config_of}
 use Rattle.journal_replay.specs.Standing.{KnowsNack, MachineStands}
 use Rattle.journal_replay.specs.Starting.{HasSpawned}
 
@@ -127,7 +128,12 @@ CanGive strands (Pair sender receiver chan msg stamp) = (sender.0.thread ≢ rec
 CanGive strands (Alone at why stamp) = IsOpenFor strands at
 
 -- the threads of a commit were given their results
+abbrev pub GivesOne : RowResult → List Strand → List Strand → Bool → Type 0
+GivesOne r old new = GivesRow r.at (r.at.1, r.message) old new
+
+abbrev pub GivesEach : RowResult × Option RowResult → List Strand → List Strand → Type 0
+GivesEach (first, None) old new = GivesOne first old new true
+GivesEach (first, Some second) old new = (middle : List Strand) × GivesOne first old middle true × GivesOne second middle new true
+
 abbrev pub GivesAll : Commit → List Strand → List Strand → Type 0
-GivesAll (Pair sender receiver chan msg stamp) old new =
-    (middle : List Strand) × GivesRow sender (sender.1, Empty) old middle true × GivesRow receiver (receiver.1, msg) middle new true
-GivesAll (Alone at why stamp) old new = GivesRow at (at.1, message_by why) old new true
+GivesAll c old new = GivesEach (gives c) old new

@@ -1,5 +1,5 @@
 -- At which line of its text each process of a run stands.
-use Rattle.std.specs.Prelude.{◌≡◌, ◌⊎◌, ℕ, if◌then◌else◌, List, length, map, Some, slice_get}
+use Rattle.std.specs.Prelude.{◌≡◌, ◌⊎◌, ℕ, if◌then◌else◌, List, length, map, IfSome, Some, slice_get}
 use Rattle.script_tree.specs.Processes.{Proc}
 use Rattle.script_tree.specs.Trees as plain
 use Rattle.script_tree.specs.declared.tree.Block.{Block as Tree}
@@ -8,6 +8,7 @@ use Rattle.protocol_values.specs.declared.Commit.{Commit}
 use Rattle.journal_replay.specs.Replays.{StandsAfter}
 use Rattle.journal_replay.specs.Runs.{Config, Starts, config_of}
 use Rattle.journal_replay.specs.declared.state.State.{State}
+use Rattle.journal_replay.specs.declared.strand.Known.{Known}
 use Rattle.journal_replay.specs.declared.strand.Strand.{Strand}
 
 -- the trees that threads run, with their lines
@@ -16,6 +17,10 @@ trees_of strands = map (λ s. s.machine.body) strands
 
 abbrev pub trees_in : State → List Tree
 trees_in s = trees_of s.threads.strands.items
+
+-- what is known of a thread's machine: it runs the tree at the thread's place
+abbrev pub RunTheirs : List Tree → List Known → Type 0
+RunTheirs trees known = (t : ℕ) (k : Known) → slice_get known t ≡ Some k → IfSome k.machine (λ m. slice_get trees t ≡ Some m.body)
 
 -- the line at which the process with this tree stands after the results that it has: of the sync whose event it offers, or of the
 -- statement that failed; 0 where it came to its end, or has not started

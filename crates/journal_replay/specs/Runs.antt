@@ -15,6 +15,7 @@ use Rattle.protocol_values.specs.declared.Message.TheVariants.{Empty}
 use Rattle.protocol_values.specs.declared.NackName.{NackName}
 use Rattle.protocol_values.specs.declared.Row.{Row}
 use Rattle.protocol_values.specs.Commits.{stamp_of}
+pub use Rattle.protocol_values.specs.Commits.{message_by}
 pub use Rattle.journal_replay.specs.Starting.{Config, no_results, HasThread, IsRow, HasRow, HasEnded, Starts, CountsOf}
 use Rattle.journal_replay.specs.declared.end.End.{End}
 use Rattle.journal_replay.specs.declared.end.End.TheVariants as ends
@@ -72,12 +73,6 @@ IsLegal ps rows config (Alone at why stamp) = IsCaused ps rows config at why
 
 abbrev pub with_result : ℕ → Chosen → Config → Config
 with_result t result config u = if u == t then config u ++ result ∷ [] else config u
-
--- an always gives its message; a nack and an end, like a send, the empty one
-abbrev pub message_by : Cause → Message
-message_by (cause.Always m) = m
-message_by (cause.Nack n) = Empty
-message_by (cause.End t) = Empty
 
 abbrev pub applied : Config → Commit → Config
 applied config (Pair sender receiver chan msg stamp) =

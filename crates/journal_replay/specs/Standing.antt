@@ -15,17 +15,17 @@ use Rattle.protocol_values.specs.declared.Cause.{Cause}
 use Rattle.protocol_values.specs.declared.Cause.TheVariants as cause
 use Rattle.protocol_values.specs.declared.Commit.{Commit}
 use Rattle.protocol_values.specs.declared.Commit.TheVariants.{Pair, Alone}
-use Rattle.protocol_values.specs.declared.Message.TheVariants.{Empty}
 use Rattle.protocol_values.specs.declared.NackName.{NackName}
 use Rattle.protocol_values.specs.declared.Offer.{Offer}
 use Rattle.protocol_values.specs.declared.Row.{Row}
 use Rattle.protocol_values.specs.Scopes.{has_scope}
-use Rattle.protocol_values.specs.Commits.{stamp_of}
+use Rattle.protocol_values.specs.declared.RowResult.{RowResult}
+use Rattle.protocol_values.specs.Commits.{gives, stamp_of}
 use Rattle.journal_replay.specs.declared.end.End.{End}
 use Rattle.journal_replay.specs.declared.end.End.TheVariants as end
 use Rattle.journal_replay.specs.declared.strand.Strand.{Strand}
 use Rattle.journal_replay.specs.declared.threads.Threads.{Threads}
-use Rattle.journal_replay.specs.Runs.{Config, CountsOf, FiredAt, HasThread, HasRow, IsGreatest, Starts, config_of, message_by}
+use Rattle.journal_replay.specs.Runs.{Config, CountsOf, FiredAt, HasThread, HasRow, IsGreatest, Starts, config_of}
 
 -- WHAT IS TRUE OF A THREAD
 
@@ -188,10 +188,15 @@ pub record OneGrows (t : ℕ) (chosen : Chosen) (stamp : ℕ) (old new : List St
   pub is : new ≡ slice_set old t behind
 
 -- the threads of a commit took their results
+abbrev pub TakesOne : ℕ → RowResult → List Strand → List Strand → Type 0
+TakesOne stamp r old new = OneGrows r.at.0.thread (r.at.1, r.message) stamp old new
+
+abbrev pub TakesEach : ℕ → RowResult × Option RowResult → List Strand → List Strand → Type 0
+TakesEach stamp (first, None) old new = TakesOne stamp first old new
+TakesEach stamp (first, Some second) old new = (middle : List Strand) × TakesOne stamp first old middle × TakesOne stamp second middle new
+
 abbrev pub Takes : Commit → List Strand → List Strand → Type 0
-Takes (Pair sender receiver chan msg stamp) old new =
-    (middle : List Strand) × OneGrows sender.0.thread (sender.1, Empty) stamp old middle × OneGrows receiver.0.thread (receiver.1, msg) stamp middle new
-Takes (Alone at why stamp) old new = OneGrows at.0.thread (at.1, message_by why) stamp old new
+Takes c old new = TakesEach (stamp_of c) (gives c) old new
 
 -- whether the thread has started, and has spawned this one
 abbrev pub has_run : Strand → ℕ → Bool

@@ -1,7 +1,7 @@
 //! How a thread ends.
 
 ghost use Rattle.std.specs.Prelude.{◌≡◌};
-ghost use Rattle.journal_replay.specs.Ends.{end_text};
+ghost use Rattle.journal_replay.specs.Ends.{end_text, is_ended, is_spent, is_waiting};
 
 use thread::Fault;
 
@@ -21,6 +21,27 @@ pub enum End {
 }
 
 impl End {
+    /// Whether its process came to an end. One that faulted did not.
+    pub fn is_ended(self) -> bool
+        ensures { result ≡ is_ended self }
+    {
+        matches!(self, End::Ended)
+    }
+
+    /// Whether it offers a sync that was not committed. One that is spent offers none.
+    pub fn is_waiting(self) -> bool
+        ensures { result ≡ is_waiting self }
+    {
+        matches!(self, End::Waiting)
+    }
+
+    /// Whether it reached a sync, and made as many before as it may.
+    pub fn is_spent(self) -> bool
+        ensures { result ≡ is_spent self }
+    {
+        matches!(self, End::Spent)
+    }
+
     /// The words for an end, as they stand in the line of a process.
     pub fn text(self) -> &'static str
         ensures { result.now ≡ end_text self }

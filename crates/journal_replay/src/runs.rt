@@ -67,7 +67,8 @@ pub fn restamp(
 
 /// Adds commits that may come next, until there is none. Which ones is open.
 pub fn settle(alloc: Global, state: State) -> Result<(State, Vec<Commit>), AllocError>
-    ensures { IfOk result (λ settled. Settles state settled.0 settled.1.items) }
+    ensures settles { IfOk result (λ settled. Settles state settled.0 settled.1.items) }
+    ensures trees { IfOk result (λ settled. trees_in settled.0 ≡ trees_in state) }
 {
     let mut threads = state.threads;
     let mut openings = Openings::of(alloc, &threads)?;

@@ -5,10 +5,8 @@ use Rattle.protocol_values.specs.declared.Atom.{Atom}
 use Rattle.protocol_values.specs.declared.Offer.{Offer}
 use Rattle.journal_text.specs.Names.{Naming}
 use Rattle.journal_text.specs.Texts.{atom_text}
-use Rattle.journal_replay.specs.Ends.{end_text}
+use Rattle.journal_replay.specs.Ends.{end_text, is_ended, is_waiting}
 use Rattle.journal_replay.specs.Replays.{TellsEnd, TellsOpen, TellsOutput, thread_count}
-use Rattle.journal_replay.specs.declared.end.End.{End}
-use Rattle.journal_replay.specs.declared.end.End.TheVariants.{Ended, Waiting}
 use Rattle.journal_replay.specs.declared.state.State.{State}
 use Rattle.pcml_chart_layout.specs.Most.{most_below}
 use Rattle.pcml_chart_layout.specs.Places.{is_own}
@@ -27,14 +25,6 @@ pub record AreFeet (state : State) (feet : List Foot) : Type 0 where
   pub each : (t : ℕ) (f : Foot) → slice_get feet t ≡ Some f → TellsFoot state t f
 
 -- THE TEXT
-
-abbrev pub is_ended : End → Bool
-is_ended Ended = true
-is_ended end = false
-
-abbrev pub is_waiting : End → Bool
-is_waiting Waiting = true
-is_waiting end = false
 
 -- each atom behind a space
 abbrev pub printed_text : Naming → List Atom → List ℕ

@@ -3,7 +3,7 @@
 ghost use Rattle.std.specs.Prelude.{◌≡◌, ◌<◌, ◌≤◌, IfOk, OnOk, length};
 ghost use Rattle.std.specs.String.{string_bytes};
 ghost use Rattle.script.specs.Scripts.{script_of};
-ghost use Rattle.pcml_chart_layout.specs.Feet.{AreFeet, is_ended, is_waiting, lines_below, offers_below, offers_of, printed_text, stand_text};
+ghost use Rattle.pcml_chart_layout.specs.Feet.{AreFeet, lines_below, offers_below, offers_of, printed_text, stand_text};
 ghost use Rattle.pcml_chart_layout.specs.Widths.{foot_length};
 ghost use Rattle.journal_text.specs.Names.{named};
 ghost use Rattle.pcml_why.specs.Whys.{offer_text};
@@ -42,23 +42,11 @@ pub fn feet_of<'a>(alloc: Global, state: &'a State) -> Result<Vec<Foot<'a>>, All
     Ok(feet)
 }
 
-fn is_ended(end: End) -> bool
-    ensures { result ≡ is_ended end }
-{
-    matches!(end, End::Ended)
-}
-
-fn is_waiting(end: End) -> bool
-    ensures { result ≡ is_waiting end }
-{
-    matches!(end, End::Waiting)
-}
-
 /// What the process offers where it waits.
 pub fn offers_of<'a>(foot: &Foot<'a>) -> &'a [Offer]
     ensures { result.now ≡ offers_of foot.now }
 {
-    if is_waiting(foot.end) {
+    if foot.end.is_waiting() {
         foot.offers
     } else {
         &[]
@@ -106,7 +94,7 @@ pub fn stand_text(alloc: Global, script: &Script, foot: &Foot<'_>) -> Result<Str
 {
     let mut text = String::new(alloc);
     text.push_str(foot.end.text())?;
-    if is_ended(foot.end) {
+    if foot.end.is_ended() {
         push_printed(&mut text, script, foot.printed)?;
     }
     Ok(text)

@@ -2,7 +2,7 @@
 use Rattle.std.specs.Prelude.{ℕ, ◌*◌, ◌≤◌, IsTrue, Option, None, Some, IfSome}
 use Rattle.pcml_explain.specs.Topics.{is_topic}
 use Rattle.pcml_request.specs.declared.request.Request.{Request}
-use Rattle.pcml_request.specs.declared.request.Request.TheVariants.{Chart, Explain, Next, Outcomes, Replay, Run, Stats, Why}
+use Rattle.pcml_request.specs.declared.request.Request.TheVariants.{Explain, OfJournal, Outcomes, Run}
 
 -- so many rows in each of so many seasons, and in one where no number of seasons is named
 abbrev pub all_rows : ℕ → Option ℕ → ℕ
@@ -14,10 +14,6 @@ all_rows rows (Some seasons) = seasons * rows
 abbrev pub CanBeAnswered : Request → Type 0
 CanBeAnswered (Explain topic) = IsTrue (is_topic topic)
 CanBeAnswered (Run asked) = asked.rows ≤ 1024
-CanBeAnswered (Replay script journal rows seasons) = rows ≤ 1024
-CanBeAnswered (Why script journal rows seasons) = rows ≤ 1024
-CanBeAnswered (Chart script journal rows seasons from to only form) = rows ≤ 1024
-CanBeAnswered (Next script journal rows) = rows ≤ 1024
-CanBeAnswered (Stats script journal rows seasons) = rows ≤ 1024
+CanBeAnswered (OfJournal asked) = asked.rows ≤ 1024
 CanBeAnswered (Outcomes search) = (search.rows ≤ 1024) × (1 ≤ search.limit) × IfSome search.of (λ number. 1 ≤ number)
 CanBeAnswered asked = Unit {0}

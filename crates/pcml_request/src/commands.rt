@@ -4,7 +4,7 @@ use crate::arguments::{
     arguments_of_journal, file_argument, flag_argument, kept_argument, limit_argument, of_argument,
     optional_file_argument, rows_argument, seasons_argument, stamp_argument,
 };
-use crate::request::{Form, Request, Running, Search, Wanted};
+use crate::request::{Drawing, Form, OfJournal, Question, Request, Running, Search, Wanted};
 use clap::{Arg, ArgAction, ArgMatches, Command, value_parser};
 use pcml_explain::{Topic, Word};
 use std::alloc::{AllocError, Global};
@@ -94,21 +94,27 @@ fn why_command<'a>(alloc: Global) -> Result<Command<'a>, AllocError> {
         .args(arguments)
 }
 
+/// What is asked of the script and the journal of these words, of so many rows, in seasons where they name a number.
+fn of_journal<'a>(words: &ArgMatches<'a>, question: Question<'a>) -> Option<Request<'a>> {
+    Some(Request::OfJournal(OfJournal {
+        script: words.get_str("file")?,
+        journal: words.get_str("journal")?,
+        rows: words.get_one("rows")?,
+        seasons: words.get_one("seasons"),
+        question,
+    }))
+}
+
 /// The request of `why`, by the words behind it.
 fn why_request<'a>(why: &ArgMatches<'a>) -> Option<Request<'a>> {
+    if why.get_str("journal").is_some() {
+        return of_journal(why, Question::Why);
+    }
     let script = why.get_str("file")?;
-    let Some(journal) = why.get_str("journal") else {
-        return Some(if why.get_flag("short") {
-            Request::WhyShort(script)
-        } else {
-            Request::WhyScript(script)
-        });
-    };
-    Some(Request::Why {
-        script,
-        journal,
-        rows: why.get_one("rows")?,
-        seasons: why.get_one("seasons"),
+    Some(if why.get_flag("short") {
+        Request::WhyShort(script)
+    } else {
+        Request::WhyScript(script)
     })
 }
 
@@ -154,16 +160,13 @@ fn chart_command<'a>(alloc: Global) -> Result<Command<'a>, AllocError> {
 
 /// The request of `chart`, by the words behind it.
 fn chart_request<'a>(chart: &ArgMatches<'a>) -> Option<Request<'a>> {
-    Some(Request::Chart {
-        script: chart.get_str("file")?,
-        journal: chart.get_str("journal")?,
-        rows: chart.get_one("rows")?,
-        seasons: chart.get_one("seasons"),
+    let drawing = Drawing {
         from: chart.get_one("from")?,
         to: chart.get_one("to")?,
         only: chart.get_str("only"),
         form: form_of(chart),
-    })
+    };
+    of_journal(chart, Question::Chart(drawing))
 }
 
 fn replay_command<'a>(alloc: Global) -> Result<Command<'a>, AllocError> {
@@ -171,16 +174,6 @@ fn replay_command<'a>(alloc: Global) -> Result<Command<'a>, AllocError> {
     Command::new(alloc, "replay")
         .about("Replays a journal against its script")
         .args(arguments)
-}
-
-/// The request of `replay`, by the words behind it.
-fn replay_request<'a>(replay: &ArgMatches<'a>) -> Option<Request<'a>> {
-    Some(Request::Replay {
-        script: replay.get_str("file")?,
-        journal: replay.get_str("journal")?,
-        rows: replay.get_one("rows")?,
-        seasons: replay.get_one("seasons"),
-    })
 }
 
 fn outcomes_command<'a>(alloc: Global) -> Result<Command<'a>, AllocError> {
@@ -244,13 +237,15 @@ fn next_command<'a>(alloc: Global) -> Result<Command<'a>, AllocError> {
         .args(arguments)
 }
 
-/// The request of `next`, by the words behind it.
+/// The request of `next`, by the words behind it: it knows no seasons.
 fn next_request<'a>(next: &ArgMatches<'a>) -> Option<Request<'a>> {
-    Some(Request::Next {
+    Some(Request::OfJournal(OfJournal {
         script: next.get_str("file")?,
         journal: next.get_str("journal")?,
         rows: next.get_one("rows")?,
-    })
+        seasons: None,
+        question: Question::Next,
+    }))
 }
 
 fn stats_command<'a>(alloc: Global) -> Result<Command<'a>, AllocError> {
@@ -258,16 +253,6 @@ fn stats_command<'a>(alloc: Global) -> Result<Command<'a>, AllocError> {
     Command::new(alloc, "stats")
         .about("Tells how often each process and channel took part in a journal")
         .args(arguments)
-}
-
-/// The request of `stats`, by the words behind it.
-fn stats_request<'a>(stats: &ArgMatches<'a>) -> Option<Request<'a>> {
-    Some(Request::Stats {
-        script: stats.get_str("file")?,
-        journal: stats.get_str("journal")?,
-        rows: stats.get_one("rows")?,
-        seasons: stats.get_one("seasons"),
-    })
 }
 
 fn explain_command<'a>(alloc: Global) -> Result<Command<'a>, AllocError> {
@@ -360,10 +345,10 @@ pub(crate) fn request_of<'a>(name: &str, behind: &ArgMatches<'a>) -> Option<Requ
         "check" => behind.get_str("file").map(|name| Request::Check(name)),
         "why" => why_request(behind),
         "chart" => chart_request(behind),
-        "replay" => replay_request(behind),
+        "replay" => of_journal(behind, Question::Replay),
         "outcomes" => outcomes_request(behind),
         "next" => next_request(behind),
-        "stats" => stats_request(behind),
+        "stats" => of_journal(behind, Question::Stats),
         "explain" => explain_request(behind),
         "manual" => Some(Request::Explain(Topic::Manual)),
         "version" => Some(Request::Version),

@@ -8,5 +8,7 @@ mod request;
 mod words;
 
 pub use crate::fault::WordsFault;
-pub use crate::request::{Form, Request, Running, Search, Wanted};
+pub use crate::request::{
+    Drawing, Form, OfJournal, Question, Request, Running, Search, Wanted,
+};
 pub use crate::words::read_words;

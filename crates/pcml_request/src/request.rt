@@ -51,6 +51,42 @@ pub enum Form {
     Mermaid,
 }
 
+/// How a chart is drawn: the commits with a stamp from one to another. Where names are given (separated by commas, or
+/// `all`), only the processes of these names have columns of their own, and all others share one.
+#[derive(Clone, Copy, Debug)]
+pub struct Drawing<'a> {
+    pub from: u32,
+    pub to: u32,
+    pub only: Option<&'a str>,
+    pub form: Form,
+}
+
+/// What is asked of a script and a journal.
+#[derive(Clone, Copy, Debug)]
+pub enum Question<'a> {
+    /// Where the journal leads.
+    Replay,
+    /// Why the processes stand where it leads them.
+    Why,
+    /// Its chart.
+    Chart(Drawing<'a>),
+    /// Which commits may come next.
+    Next,
+    /// How often each process and each channel took part.
+    Stats,
+}
+
+/// What is asked of the script in a file and the journal in another, of so many rows a process, and where a number of
+/// seasons is named, so many in each of these.
+#[derive(Clone, Copy, Debug)]
+pub struct OfJournal<'a> {
+    pub script: &'a str,
+    pub journal: &'a str,
+    pub rows: u16,
+    pub seasons: Option<u16>,
+    pub question: Question<'a>,
+}
+
 /// What to print.
 #[derive(Clone, Copy, Debug)]
 pub enum Request<'a> {
@@ -58,55 +94,14 @@ pub enum Request<'a> {
     Run(Running<'a>),
     /// How many processes and channels the script in the file of this name has.
     Check(&'a str),
-    /// Why the processes of a script stand where the journal in a file leads them, of so many rows each in
-    /// each season.
-    Why {
-        script: &'a str,
-        journal: &'a str,
-        rows: u16,
-        seasons: Option<u16>,
-    },
+    /// What is asked of a script and a journal.
+    OfJournal(OfJournal<'a>),
     /// Why the text in the file of this name is no script.
     WhyScript(&'a str),
     /// The same in one line, as compilers tell it.
     WhyShort(&'a str),
-    /// The chart of the journal in a file, against the script in another, of so many rows a process in each
-    /// season: the commits with a stamp from one to another. Where names are given (separated by commas, or `all`),
-    /// only the processes of these names have columns of their own, and all others share one.
-    Chart {
-        script: &'a str,
-        journal: &'a str,
-        rows: u16,
-        seasons: Option<u16>,
-        from: u32,
-        to: u32,
-        only: Option<&'a str>,
-        form: Form,
-    },
-    /// Where the journal in a file leads the script in another, of so many rows a process in each season.
-    Replay {
-        script: &'a str,
-        journal: &'a str,
-        rows: u16,
-        seasons: Option<u16>,
-    },
     /// What a script can come to.
     Outcomes(Search<'a>),
-    /// Which commits may come next where the journal in a file leads the script in another, of so many rows a
-    /// process.
-    Next {
-        script: &'a str,
-        journal: &'a str,
-        rows: u16,
-    },
-    /// How often each process and each channel of a script took part in the journal in a file, of so many rows a process
-    /// in each season.
-    Stats {
-        script: &'a str,
-        journal: &'a str,
-        rows: u16,
-        seasons: Option<u16>,
-    },
     /// What a fault or a word means, or the manual page.
     Explain(Topic),
     /// Which version of the program this is.

@@ -5,7 +5,7 @@ ghost use Rattle.pcml_request.specs.Requests.{CanBeAnswered};
 
 use crate::commands::{command_line, request_of};
 use crate::fault::WordsFault;
-use crate::request::{Request, Running, Search};
+use crate::request::{Drawing, OfJournal, Question, Request, Running, Search};
 use clap::error::ErrorKind;
 use clap::{ArgMatches, Error};
 use pcml_explain::explanation;
@@ -20,17 +20,15 @@ fn range_objection(asked: &Request<'_>) -> Option<&'static str>
             Some(_) => None,
             None => Some("no fault has this number"),
         },
-        Request::Replay { rows, .. }
-        | Request::Why { rows, .. }
-        | Request::Chart { rows, .. }
+        Request::OfJournal(OfJournal { rows, .. })
         | Request::Run(Running { rows, .. })
         | Request::Outcomes(Search { rows, .. })
-        | Request::Next { rows, .. }
-        | Request::Stats { rows, .. }
             if *rows > 1024 => { Some("a process makes at most 1024 syncs in a season") }
-        Request::Chart { from, to, .. } if from > to => Some(
-            "no stamp is from the one to the other",
-        ),
+        Request::OfJournal(OfJournal {
+            question: Question::Chart(Drawing { from, to, .. }),
+            ..
+        })
+            if from > to => { Some("no stamp is from the one to the other") }
         Request::Outcomes(Search { limit: 0, .. }) => Some("at least one configuration is seen"),
         Request::Outcomes(Search { of: Some(0), .. }) => Some("the outcomes are numbered from 1"),
         _ => None,
@@ -40,31 +38,13 @@ fn range_objection(asked: &Request<'_>) -> Option<&'static str>
 /// Why files that the request names cannot be had as it names them.
 fn file_objection(asked: &Request<'_>) -> Option<&'static str> {
     match asked {
-        Request::Replay {
-            script: "-",
-            journal: "-",
-            ..
-        }
-        | Request::Why {
-            script: "-",
-            journal: "-",
-            ..
-        }
-        | Request::Chart {
-            script: "-",
-            journal: "-",
-            ..
-        }
-        | Request::Next {
-            script: "-",
-            journal: "-",
-            ..
-        }
-        | Request::Stats {
-            script: "-",
-            journal: "-",
-            ..
-        } => Some("only one of the two files can be the standard input"),
+        Request::OfJournal(
+            OfJournal {
+                script: "-",
+                journal: "-",
+                ..
+            },
+        ) => Some("only one of the two files can be the standard input"),
         Request::Run(
             Running {
                 journal: Some("-"),

@@ -22,12 +22,12 @@ use Rattle.std.proofs.lemmas.List.Sorted.{length_permutation, All-permutation}
 use Rattle.protocol.specs.Tables.{all_rows, start_of}
 use Rattle.journal_text.specs.Names.{numbers}
 use Rattle.journal_text.specs.Texts.{commits_text}
-use Rattle.protocol.specs.declared.opening.Life.{Life}
-use Rattle.protocol.specs.declared.opening.Life.TheVariants.{Running, Unstarted}
+use Rattle.protocol_ledger.specs.declared.opening.Life.{Life}
+use Rattle.protocol_ledger.specs.declared.opening.Life.TheVariants.{Running, Unstarted}
 use Rattle.protocol.specs.Openings.{HadStarted, start_opening, thread_in}
-use Rattle.protocol.proofs.LedgerLemmas.{first_thread, nobody_waits}
-use Rattle.protocol.proofs.RowLemmas.{same_row}
-use Rattle.protocol.proofs.Linking.{some_inj}
+use Rattle.protocol_ledger.proofs.LedgerLemmas.{first_thread, nobody_waits}
+use Rattle.protocol_ledger.proofs.RowLemmas.{same_row}
+use Rattle.protocol_ledger.proofs.Linking.{some_inj}
 use Rattle.pcml_tool.specs.Meet.{first_row, meeting_of, meeting_line, send_of, receive_offer, HasTwoOffers, PrintsMeeting}
 
 -- both threads start at once

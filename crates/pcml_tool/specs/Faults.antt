@@ -8,8 +8,8 @@ use Rattle.pcml_files.specs.declared.source.SourceFault.{SourceFault}
 use Rattle.pcml_files.specs.declared.source.SourceFault.TheVariants as files
 use Rattle.journal_text.specs.declared.JournalFault.{JournalFault}
 use Rattle.journal_text.specs.declared.JournalFault.TheVariants as journals
-use Rattle.runtime.specs.declared.fault.RunFault.{RunFault}
-use Rattle.runtime.specs.declared.fault.RunFault.TheVariants as runs
+use Rattle.runtime_run.specs.declared.fault.RunFault.{RunFault}
+use Rattle.runtime_run.specs.declared.fault.RunFault.TheVariants as runs
 use Rattle.runtime.specs.declared.seasons.SeasonFault.{SeasonFault}
 use Rattle.runtime.specs.declared.seasons.SeasonFault.TheVariants as seasons
 use Rattle.script.specs.declared.fault.ScriptFault.{ScriptFault}

@@ -9,7 +9,7 @@ ghost use Rattle.journal_text.specs.Journals.{HasLine};
 ghost use Rattle.journal_text.specs.Names.{names_of, named};
 ghost use Rattle.runtime.specs.Limits.{AreRows, AreSeasons, AreWorkers};
 ghost use Rattle.runtime.specs.Played.{NeedsSeasons};
-ghost use Rattle.runtime.specs.declared.fault.RunFault.TheVariants.{Workers, Rows};
+ghost use Rattle.runtime_run.specs.declared.fault.RunFault.TheVariants.{Workers, Rows};
 ghost use Rattle.runtime.specs.declared.seasons.SeasonFault.TheVariants as faults;
 ghost use Rattle.pcml_tool.specs.Run.{tail_line, IsRan, TellsFreelyOf, TellsRecord, TellsRunOf};
 ghost use Rattle.pcml_answers.specs.Standings.{TellsStandings};

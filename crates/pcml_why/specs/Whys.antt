@@ -22,7 +22,8 @@ use Rattle.pcml_why_sites.specs.Edges.{edges_text}
 use Rattle.pcml_why_sites.specs.Knots.{IsKnot, waits_for}
 use Rattle.pcml_why_sites.specs.Sites.{AreSites}
 use Rattle.pcml_why_sites.specs.Writing.{Written, texts_below}
-use Rattle.pcml_why_sites.specs.Offering.{is_open, is_waiting, others}
+use Rattle.pcml_why_sites.specs.Offering.{is_open, others}
+use Rattle.journal_replay.specs.Ends.{is_waiting}
 use Rattle.pcml_why.specs.Variables.{variables_text, wrong_text}
 use Rattle.pcml_why_sites.specs.declared.site.Site.{Site}
 use Rattle.protocol_values.specs.declared.Side.{Side}

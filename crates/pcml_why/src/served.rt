@@ -8,7 +8,7 @@ ghost use Rattle.pcml_why.specs.Served.{AreAnswers, is_for, is_offered, partner_
 ghost use Rattle.std.specs.List.{list_any};
 
 use configurations::nobody_serves;
-use pcml_why_sites::{Site, is_waiting, offers_on, same_side};
+use pcml_why_sites::{Site, offers_on, same_side};
 use protocol_values::{Base, Offer, Side};
 use script_tree::Proc;
 use std::alloc::{AllocError, Global};
@@ -111,7 +111,7 @@ pub(crate) fn answers_of(
 {
     let mut answers = Vec::new(alloc);
     for site in sites {
-        if is_waiting(site.end) {
+        if site.end.is_waiting() {
             push_answers(&mut answers, processes, sites, site.offers)?;
         }
     }

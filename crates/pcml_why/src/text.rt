@@ -16,7 +16,7 @@ use crate::served::{Answer, answers_of, is_by_nobody};
 use crate::variables::Namer;
 use journal_replay::{End, State};
 use journal_text::{push_channel, push_message, push_nack, push_thread};
-use pcml_why_sites::{Site, WaitGraph, is_open, is_waiting, others, process_texts, sites_at};
+use pcml_why_sites::{Site, WaitGraph, is_open, others, process_texts, sites_at};
 use protocol_values::{Base, Commit, NackName, Offer, Side};
 use script::Script;
 use script_token::{Placed, scan};
@@ -231,7 +231,7 @@ fn push_stand(
 fn push_known(out: &mut String, namer: &Namer<'_>, site: &Site<'_>) -> Result<(), AllocError>
     ensures { OnOk result (Adds out.old out.new (known_at (named (script_of namer.now.script.now)) (proc_of namer.now.process.now).variables site.now)) }
 {
-    if !is_waiting(site.end) {
+    if !site.end.is_waiting() {
         return Ok(());
     }
     namer.push_variables(out, site.variables)

@@ -3,14 +3,9 @@ use Rattle.std.specs.Prelude.{◌==◌, ◌&&◌, ℕ, zero, suc, Bool, true, fa
 use Rattle.std.specs.List.{list_any}
 use Rattle.protocol_values.specs.Values.{is_on}
 use Rattle.protocol_values.specs.declared.NackName.{NackName}
-use Rattle.journal_replay.specs.declared.end.End.{End}
-use Rattle.journal_replay.specs.declared.end.End.TheVariants.{Waiting}
+use Rattle.journal_replay.specs.Ends.{is_waiting}
 use Rattle.pcml_why_sites.specs.declared.site.Site.{Site}
 use Rattle.protocol_values.specs.declared.Side.{Side}
-
-abbrev pub is_waiting : End → Bool
-is_waiting Waiting = true
-is_waiting end = false
 
 -- the process waits with such an offer
 abbrev pub offers_on : Side → ℕ → Site → Bool

@@ -10,7 +10,7 @@ ghost use Rattle.journal_text.specs.Names.{named};
 ghost use Rattle.script.specs.Appending.{Adds};
 
 use crate::knot::{WaitGraph, channel_name};
-use crate::site::{Site, is_waiting};
+use crate::site::Site;
 use crate::writing::WrittenOffer;
 use journal_text::{push_channel, push_thread};
 use protocol_values::{Base, Offer, Side};
@@ -46,7 +46,7 @@ fn offers_at<'a>(sites: &[Site<'a>], process: usize) -> &'a [Offer]
 {
     match sites.get(process) {
         Some(site) => {
-            if is_waiting(site.end) {
+            if site.end.is_waiting() {
                 site.offers
             } else {
                 &[]

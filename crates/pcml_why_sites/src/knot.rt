@@ -7,7 +7,7 @@ ghost use Rattle.pcml_why_sites.specs.Writing.{seen_texts};
 ghost use Rattle.pcml_why_sites.specs.Knots.{IsKnot, could_serve, has_former, has_next, is_held, is_pair, members_below, pairs_below, pairs_of, waits_for};
 ghost use Rattle.journal_text.specs.Names.{named};
 
-use crate::site::{Site, is_open, is_waiting};
+use crate::site::{Site, is_open};
 use crate::writing::{WrittenOffer, could_offer};
 use protocol_values::{Base, Offer, Side};
 use script::Script;
@@ -79,7 +79,7 @@ impl<'a> WaitGraph<'a> {
         }
         let first = &self.sites[a];
         let second = &self.sites[b];
-        is_waiting(first.end) && is_waiting(second.end) && self.could_serve_some(b, first.offers)
+        first.end.is_waiting() && second.end.is_waiting() && self.could_serve_some(b, first.offers)
     }
 
     fn push_waits(&self, pairs: &mut Vec<(u8, u8)>, a: usize) -> Result<(), AllocError>

@@ -14,5 +14,5 @@ mod writing;
 
 pub use crate::knot::WaitGraph;
 pub use crate::parts::process_texts;
-pub use crate::site::{Site, is_open, is_waiting, offers_on, others, sites_at};
+pub use crate::site::{Site, is_open, offers_on, others, sites_at};
 pub use crate::writing::{WrittenOffer, same_side};

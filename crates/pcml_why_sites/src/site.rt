@@ -3,9 +3,10 @@
 ghost use Rattle.std.specs.Prelude.{◌≡◌, ◌==◌, ◌&&◌, ◌≤◌, ℕ, IfOk, length, map};
 ghost use Rattle.script_tree.specs.Processes.{proc_of};
 ghost use Rattle.std.specs.List.{list_any};
+ghost use Rattle.journal_replay.specs.Ends.{is_waiting};
 ghost use Rattle.journal_replay.specs.Replays.{StandsAfter, thread_count};
 ghost use Rattle.script.specs.Scripts.{script_of};
-ghost use Rattle.pcml_why_sites.specs.Offering.{is_open, is_waiting, offers_on, others};
+ghost use Rattle.pcml_why_sites.specs.Offering.{is_open, offers_on, others};
 ghost use Rattle.protocol_values.specs.Values.{is_on};
 ghost use Rattle.pcml_why_sites.specs.Sites.{AreSites};
 
@@ -32,18 +33,11 @@ pub struct Site<'a> {
     pub nacks: &'a [u8],
 }
 
-/// Whether a process waits.
-pub fn is_waiting(end: End) -> bool
-    ensures { result ≡ is_waiting end }
-{
-    matches!(end, End::Waiting)
-}
-
 /// Whether the process waits with an offer on this side of the channel.
 pub fn offers_on(side: Side, chan: u8, site: &Site<'_>) -> bool
     ensures { result ≡ offers_on side chan site.now }
 {
-    if !is_waiting(site.end) {
+    if !site.end.is_waiting() {
         return false;
     }
     for offer in site.offers {
@@ -78,7 +72,7 @@ pub fn others(
 fn has_nack(site: &Site<'_>, nack: u8) -> bool
     ensures { result ≡ (is_waiting site.now.end && list_any (λ n. n == nack) site.now.nacks.now) }
 {
-    if !is_waiting(site.end) {
+    if !site.end.is_waiting() {
         return false;
     }
     for number in site.nacks {

@@ -1,22 +1,20 @@
 -- The state at a beginning is sound.
-use Rattle.std.proofs.Common.{◌≡◌, ℕ, ◌<◌, ◌≤◌, List, get_or, length, map, replicate, sym, ap, ◌∙◌, subst, ⊎_elim, Option, None, arith}
+use Rattle.std.proofs.Common.{◌≡◌, ℕ, ◌<◌, ◌≤◌, List, get_or, length, replicate, sym, ap, ◌∙◌, subst, ⊎_elim, Option, None, arith}
 use Rattle.std.proofs.lemmas.Bool.{cases_lt}
-use Rattle.std.proofs.lemmas.List.{get_or-replicate, get_or_past, length-map, length-replicate}
+use Rattle.std.proofs.lemmas.List.{get_or-replicate, get_or_past, length-replicate}
 use Rattle.protocol_values.specs.declared.Row.{Row}
 use Rattle.protocol_values.specs.declared.Cell.{Cell}
 use Rattle.protocol_values.specs.declared.Cell.TheVariants.{Fresh}
 use Rattle.protocol.specs.declared.state.State.{State}
-use Rattle.protocol.specs.Openings.{AreFirstWords, Begins, IsOpening, Opening, greatest, held_first}
-use Rattle.protocol.specs.Tables.{all_rows, cell_at, number_of, names}
+use Rattle.protocol_ledger.specs.Openings.{Begins, IsOpening, Opening}
+use Rattle.protocol_ledger.specs.Tables.{all_rows, cell_at, number_of, names}
 use Rattle.protocol_values.specs.Values.{joined_of}
-use Rattle.protocol.specs.Worlds.{World, start_world}
-use Rattle.protocol.specs.Kept.{Kept}
+use Rattle.protocol_ledger.specs.Worlds.{World, start_world}
+use Rattle.protocol_ledger.specs.Kept.{Kept}
 use Rattle.protocol.specs.States.{world_of, IsSound, Tells}
-use Rattle.protocol.proofs.Beginning.{first_cell}
-use Rattle.protocol.proofs.Keeping.{held_inside, length_all}
-use Rattle.protocol.proofs.Naming.{namer_none}
-use Rattle.protocol.proofs.LedgerLemmas.{at_number, kept_opening, kept_start, start_cell}
-use Rattle.protocol.proofs.Places.{row_inside}
+use Rattle.protocol_ledger.proofs.Beginning.{first_cell}
+use Rattle.protocol_ledger.proofs.Naming.{namer_none}
+use Rattle.protocol_ledger.proofs.LedgerLemmas.{kept_opening, kept_start, start_cell}
 
 nobody : (n i : ℕ) → get_or (replicate {A = Option Row} n None) i None ≡ None
 nobody n i = ⊎_elim
@@ -40,24 +38,6 @@ start_fresh threads rows seats later r = start_cell threads rows later r
 pub start_sound : (s : State) (threads rows seats later n : ℕ) → world_of s ≡ start_world threads rows seats later → s.namers.items ≡ replicate n None → threads ≤ 64 → rows ≤ 1024 → IsSound s
 start_sound s threads rows seats later n e f a b =
     sound_fresh s n (subst Kept (sym e) (kept_start threads rows seats later a b)) (λ r. ap (λ (w : World). cell_at w.table r) e ∙ start_fresh threads rows seats later r) f
-
--- a world with the first words of an opening, and the holders of its first rows
-pub next_begins : (o : Opening) (rows seats : ℕ) (w : World) → w.table.threads ≡ length o.threads → w.table.rows ≡ rows → w.seats ≡ seats → w.table.opening ≡ greatest o → AreFirstWords o w.table
-    → w.holders ≡ map (held_first o seats) (all_rows w.table.threads w.table.rows) → w.lasts ≡ replicate w.table.threads None → Begins o rows seats w
-next_begins o rows seats w threads rows_are seats_are opening words holders lasts = record {
-  threads = threads;
-  rows_are = rows_are;
-  seats_are = seats_are;
-  opening = opening;
-  words = words;
-  all_rows = ap (λ (hs : List (Option ℕ)). length hs) holders ∙ length-map (all_rows w.table.threads w.table.rows) (held_first o seats) ∙ length_all w.table.threads w.table.rows;
-  held = λ r e.
-      let inside = row_inside w.table r e in
-      held_inside w r e
-      ∙ ap (λ (hs : List (Option ℕ)). get_or hs (number_of w.table.rows r) None) holders
-      ∙ at_number (held_first o seats) w.table.threads w.table.rows r None inside.0 inside.1;
-  lasts = lasts ∙ ap (λ n. replicate n None) threads;
-}
 
 pub next_sound : (o : Opening) (rows seats n : ℕ) (s : State) → Begins o rows seats (world_of s) → IsOpening o rows → rows ≤ 1024 → s.namers.items ≡ replicate n None → IsSound s
 next_sound o rows seats n s begins opens few e =

@@ -10,18 +10,18 @@ use Rattle.protocol_values.specs.declared.Course.{Course}
 use Rattle.protocol_values.specs.declared.Joined.{Joined}
 use Rattle.protocol_values.specs.declared.Cell.{Cell}
 use Rattle.protocol_values.specs.declared.Cell.TheVariants.{Waiting, Claimed, Synched}
-use Rattle.protocol.specs.Tables.{Table, is_row, is_nack, row_eq, all_rows, number_of, cell_at, is_fresh, joined_at, offer_at, offers_meet, names, is_partner, namer_of, cause_at}
+use Rattle.protocol_ledger.specs.Tables.{Table, is_row, is_nack, row_eq, all_rows, number_of, cell_at, is_fresh, joined_at, offer_at, offers_meet, names, is_partner, namer_of, cause_at}
 use Rattle.protocol_values.specs.Values.{joined_of}
-use Rattle.protocol.specs.Worlds.{World, namer_at, with_word, with_cell, with_table, joined_with, mirrored, granted_by, with_course, with_nack}
-use Rattle.protocol.specs.Kept.{Kept, joined_by}
+use Rattle.protocol_ledger.specs.Worlds.{World, namer_at, with_word, with_cell, with_table, joined_with, mirrored, granted_by, with_course, with_nack}
+use Rattle.protocol_ledger.specs.Kept.{Kept, joined_by}
 use Rattle.protocol.specs.States.{Tells}
-use Rattle.protocol.proofs.RowLemmas.{row_eq-refl, row_eq-false, row_cases, row_ne, put, put_same, put_other}
-use Rattle.protocol.proofs.Linking.{fresh_not_joined}
-use Rattle.protocol.proofs.StepLemmas.{names_o}
-use Rattle.protocol.proofs.Places.{row_inside, block_inside}
-use Rattle.protocol.proofs.Readings.{cell_after_word, cell_after_cell, cell_after_bind, cell_after_life, row_of_open}
-use Rattle.protocol.proofs.Naming.{namer_is}
-use Rattle.protocol.proofs.Keeping.{unnamed_row, join_in_range, IsSealing, seal_in_range, same_number, grant_in_range, waits_unjoined}
+use Rattle.protocol_ledger.proofs.RowLemmas.{row_eq-refl, row_eq-false, row_cases, row_ne, put, put_same, put_other}
+use Rattle.protocol_ledger.proofs.Linking.{fresh_not_joined}
+use Rattle.protocol_ledger.proofs.StepLemmas.{names_o}
+use Rattle.protocol_ledger.proofs.Places.{row_inside, block_inside}
+use Rattle.protocol_ledger.proofs.Readings.{cell_after_word, cell_after_cell, cell_after_bind, cell_after_life, row_of_open}
+use Rattle.protocol_ledger.proofs.Naming.{namer_is}
+use Rattle.protocol_ledger.proofs.Keeping.{unnamed_row, join_in_range, IsSealing, seal_in_range, same_number, grant_in_range, waits_unjoined}
 
 -- where nobody names anybody anew, the list stays
 pub tells_same : (w : World) (t : Table) (namers : List (Option Row)) → t.threads ≡ w.table.threads → t.rows ≡ w.table.rows → ((q r : Row) → names (joined_at t q) r ≡ names (joined_at w.table q) r) → Tells w namers → Tells (with_table w t) namers

@@ -1,20 +1,15 @@
--- What the code's own tables and worlds stand for.
+-- What the code's own worlds stand for.
 use Rattle.std.specs.Prelude.{◌≡◌, Bool, true, false, Option, None, List, slice_index_or}
 use Rattle.protocol_values.specs.declared.Row.{Row}
 use Rattle.protocol_values.specs.declared.Seat.{Seat}
 use Rattle.protocol_values.specs.declared.Step.{Step}
-use Rattle.protocol.specs.declared.sheet.Sheet.{Sheet}
 use Rattle.protocol.specs.declared.state.State.{State}
-use Rattle.protocol.specs.Short.{wide_table}
-use Rattle.protocol.specs.Tables.{Table, is_row, number_of}
-use Rattle.protocol.specs.Worlds.{World, Condition, Allowed, after_step, namer_at, IsRefused}
-use Rattle.protocol.specs.Kept.{Kept}
+use Rattle.protocol_ledger.specs.Sheets.{table_of}
+use Rattle.protocol_ledger.specs.Tables.{is_row, number_of}
+use Rattle.protocol_ledger.specs.Worlds.{World, Condition, Allowed, after_step, namer_at, IsRefused}
+use Rattle.protocol_ledger.specs.Kept.{Kept}
 use Rattle.protocol.specs.declared.ProtoFault.{ProtoFault}
 use Rattle.protocol.specs.declared.ProtoFault.TheVariants.{Memory, NotAllowed}
-
--- the table for which a sheet's words stand, whose rows may be short
-abbrev pub table_of : Sheet → Table
-table_of b = wide_table b.offers (record { threads = b.threads; rows = b.rows; words = b.words.items; opening = b.opening })
 
 abbrev pub world_of : State → World
 world_of s = record { table = table_of s.sheet; seats = s.seats; holders = s.holders.items; lasts = s.lasts.items }

@@ -1,30 +1,23 @@
 //! The protocol as a pure machine: worlds, steps and ledgers.
 #![tactic(auto)]
 
-ghost use Rattle.protocol.specs.Growing.{CommitsStay, SchedulesAreLawful, TablesGrow};
-ghost use Rattle.protocol.specs.Ledgers.{IsLawful, ledger_of};
-ghost use Rattle.protocol.specs.Openings.{Begins, IsOpening, start_opening};
-ghost use Rattle.protocol.specs.Standing.{HaveResults, OneResults};
-ghost use Rattle.protocol.specs.Worlds.{Plays, IsRefused, start_world, World};
+ghost use Rattle.protocol_ledger.specs.Growing.{CommitsStay, SchedulesAreLawful, TablesGrow};
+ghost use Rattle.protocol_ledger.specs.Ledgers.{IsLawful, ledger_of};
+ghost use Rattle.protocol_ledger.specs.Openings.{Begins, IsOpening, start_opening};
+ghost use Rattle.protocol_ledger.specs.Standing.{HaveResults, OneResults};
+ghost use Rattle.protocol_ledger.specs.Worlds.{Plays, IsRefused, start_world, World};
 ghost use Rattle.protocol_values.specs.declared.Step.{Step};
 ghost use Rattle.protocol_values.specs.declared.Seat.{Seat};
 ghost use Rattle.std.specs.Prelude.{◌≡◌, ℕ, ◌≤◌, List};
 
-mod commits;
-mod ledger;
-mod opening;
-mod reached;
-mod resident;
-mod sheet;
-mod stamps;
 mod state;
 mod world;
 
-pub use crate::ledger::Ledger;
-pub use crate::opening::{Life, NackState, Opening};
-pub use crate::resident::{Bare, Resident};
-pub use crate::sheet::{LIVES, NACKS, OFFERS, ROW_LEN, next_words, start_words};
 pub use crate::world::{World, play};
+pub use protocol_ledger::{
+    Bare, LIVES, Ledger, Life, NACKS, NackState, OFFERS, Opening, ROW_LEN, Resident, next_words,
+    start_words,
+};
 pub use protocol_values::{
     Atom, Base, Binding, Cause, Cell, Commit, Course, Direction, Head, Joined, Message, NackName,
     NackWord, Offer, Row, Seat, Side, Step, is_word_for, pack_atom, pack_cell, pack_count,

@@ -2,8 +2,7 @@
 
 ghost use Rattle.std.specs.Prelude.{Some, ◌≡◌, ◌*◌, ◌<◌, ◌≤◌, ◌↔◌, IfOk, IsTrue, true, length, map, replicate};
 
-use crate::opening::{Life, Opening};
-use crate::sheet::{NACKS, ROW_LEN, Sheet, start_of, waits};
+use protocol_ledger::{Life, NACKS, Opening, ROW_LEN, Sheet, start_of, waits};
 use protocol_values::{
     Binding, Cell, Course, Joined, NackName, NackWord, Offer, Row, Seat, Step, is_word_for,
 };
@@ -29,10 +28,11 @@ pub(crate) struct State {
 impl State {
     ghost use Rattle.protocol_values.specs.declared.Step.TheVariants.{Draft, Open, Look, Read, Claim, Yield, Join, Seal, Grant, Take, Bind, Start, Finish};
     ghost use Rattle.protocol_values.specs.declared.Cell.TheVariants.{Waiting};
-    ghost use Rattle.protocol.specs.Openings.{Begins, IsOpening, opening_of};
-    ghost use Rattle.protocol.specs.Tables.{is_row, cell_at, offer_at, offers_meet, cause_at};
-    ghost use Rattle.protocol.specs.Worlds.{start_world, Holds, IsAlive, StandsAt, holder_at, last_holder, namer_at, joined_with, granted_by, handed, handed_last, Condition};
-    ghost use Rattle.protocol.specs.States.{table_of, world_of, IsSound, Tries, Decides};
+    ghost use Rattle.protocol_ledger.specs.Openings.{Begins, IsOpening, opening_of};
+    ghost use Rattle.protocol_ledger.specs.Tables.{is_row, cell_at, offer_at, offers_meet, cause_at};
+    ghost use Rattle.protocol_ledger.specs.Worlds.{start_world, Holds, IsAlive, StandsAt, holder_at, last_holder, namer_at, joined_with, granted_by, handed, handed_last, Condition};
+    ghost use Rattle.protocol_ledger.specs.Sheets.{table_of};
+    ghost use Rattle.protocol.specs.States.{world_of, IsSound, Tries, Decides};
 
     /// The state of a world at the start.
     pub(crate) fn start(
@@ -92,7 +92,7 @@ impl State {
     }
 
     /// The seat that holds the row.
-    #[tactic(auto, unfolding(crate::specs::Worlds::holder_at))]
+    #[tactic(auto, unfolding(protocol_ledger::specs::Worlds::holder_at))]
     fn holder(&self, row: Row) -> Option<u8>
         ensures { result ≡ holder_at (world_of self.now) row }
     {
@@ -304,7 +304,7 @@ impl State {
     }
 
     /// The other row's side of a join.
-    #[tactic(auto, unfolding(crate::specs::Worlds::joined_with))]
+    #[tactic(auto, unfolding(protocol_ledger::specs::Worlds::joined_with))]
     fn joined_with(&self, mine: Row, own: u8, other: Row, partner: u8) -> Joined
         requires sound { IsSound self.now }
         requires waits { cell_at (table_of self.now.sheet) other ≡ Waiting }
@@ -360,7 +360,7 @@ impl State {
     }
 
     /// How the row is committed alone, by an offer with this cause.
-    #[tactic(auto, unfolding(crate::specs::Worlds::granted_by))]
+    #[tactic(auto, unfolding(protocol_ledger::specs::Worlds::granted_by))]
     fn granted_by(&self, row: Row, offer: u8, cause: u32) -> Joined
         requires sound { IsSound self.now }
         requires waits { cell_at (table_of self.now.sheet) row ≡ Waiting }
@@ -466,7 +466,7 @@ impl State {
     }
 
     /// Lets the seat hold the row behind this one, or the place behind the last row.
-    #[tactic(auto, unfolding(crate::specs::Worlds::handed, crate::specs::Worlds::handed_last))]
+    #[tactic(auto, unfolding(protocol_ledger::specs::Worlds::handed, protocol_ledger::specs::Worlds::handed_last))]
     fn hand(&mut self, seat: Seat, row: Row)
         requires { is_row (table_of self.old.sheet) row ≡ true }
         ensures sheet { self.new.sheet ≡ self.old.sheet }
@@ -486,9 +486,9 @@ impl State {
     }
 }
 
-ghost use Rattle.protocol.specs.Tables.{all_rows, offers_meet};
-ghost use Rattle.protocol.specs.Openings.{held_first, opening_of};
-ghost use Rattle.protocol.specs.Worlds.{first_holder, side_of};
+ghost use Rattle.protocol_ledger.specs.Tables.{all_rows, offers_meet};
+ghost use Rattle.protocol_ledger.specs.Openings.{held_first, opening_of};
+ghost use Rattle.protocol_ledger.specs.Worlds.{first_holder, side_of};
 
 /// The holders at the start, row by row.
 fn first_holders(

@@ -1,15 +1,14 @@
 //! Worlds, and the schedules that are played on them.
 
 ghost use Rattle.std.specs.Prelude.{◌≡◌, ◌≤◌, [], IfOk, IfErr};
-ghost use Rattle.protocol.specs.Worlds.{Plays, start_world};
-ghost use Rattle.protocol.specs.Ledgers.{commits_in, ledger_of};
-ghost use Rattle.protocol.specs.Openings.{Begins, IsOpening, opening_of};
+ghost use Rattle.protocol_ledger.specs.Worlds.{Plays, start_world};
+ghost use Rattle.protocol_ledger.specs.Ledgers.{commits_in, ledger_of};
+ghost use Rattle.protocol_ledger.specs.Openings.{Begins, IsOpening, opening_of};
 ghost use Rattle.protocol.specs.States.{Refuses};
 
 use crate::ProtoFault;
-use crate::ledger::Ledger;
-use crate::opening::Opening;
 use crate::state::State;
+use protocol_ledger::{Ledger, Opening};
 use protocol_values::{Seat, Step};
 use std::alloc::Global;
 use std::marker::Model;
@@ -21,7 +20,7 @@ pub struct World {
 }
 
 impl Model for World {
-    ghost use Rattle.protocol.specs.Worlds.{World};
+    ghost use Rattle.protocol_ledger.specs.Worlds.{World};
 
     ghost Value = { World };
 

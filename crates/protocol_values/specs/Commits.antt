@@ -1,15 +1,35 @@
 -- Commits: their stamps, and the order in which a journal has them.
-use Rattle.std.specs.Prelude.{ℕ, List}
+use Rattle.std.specs.Prelude.{ℕ, List, Option, Some, None}
 use Rattle.std.specs.List.Sorted.{IsSortedByKey}
 use Rattle.std.specs.Ordering.{nat_cmp, ordering_then}
 use Rattle.std.specs.declared.cmp.Ordering.{Ordering}
 use Rattle.protocol_values.specs.declared.Row.{Row}
+use Rattle.protocol_values.specs.declared.Cause.{Cause}
+use Rattle.protocol_values.specs.declared.Cause.TheVariants as cause
+use Rattle.protocol_values.specs.declared.Message.{Message}
+use Rattle.protocol_values.specs.declared.Message.TheVariants.{Empty}
+use Rattle.protocol_values.specs.declared.RowResult.{RowResult}
 use Rattle.protocol_values.specs.declared.Commit.{Commit}
 use Rattle.protocol_values.specs.declared.Commit.TheVariants.{Pair, Alone}
 
 abbrev pub stamp_of : Commit → ℕ
 stamp_of (Pair sender receiver chan msg stamp) = stamp
 stamp_of (Alone at why stamp) = stamp
+
+-- an always gives its message; a nack and an end, like a send, the empty one
+abbrev pub message_by : Cause → Message
+message_by (cause.Always m) = m
+message_by (cause.Nack n) = Empty
+message_by (cause.End t) = Empty
+
+-- WHAT A COMMIT GIVES ITS ROWS: a pair gives its sender the empty message, and its receiver the one that was sent
+abbrev pub gives : Commit → RowResult × Option RowResult
+gives (Pair sender receiver chan msg stamp) = (record { at = sender; message = Empty }, Some (record { at = receiver; message = msg }))
+gives (Alone at why stamp) = (record { at = at; message = message_by why }, None)
+
+-- the most syncs that a thread of a journal makes: 65,535 tables of 1,024 rows
+abbrev pub most_rows : ℕ
+most_rows = 67107840
 
 -- the row that a commit names first, and its thread
 abbrev pub first_row : Commit → Row

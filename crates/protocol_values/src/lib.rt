@@ -2,7 +2,7 @@
 #![tactic(auto)]
 
 ghost use Rattle.std.specs.Prelude.{◌≡◌, ◌<◌};
-ghost use Rattle.protocol_values.specs.Commits.{order_of};
+ghost use Rattle.protocol_values.specs.Commits.{gives, message_by, order_of, stamp_of};
 ghost use Rattle.protocol_values.specs.Equality.{IsEquality};
 ghost use Rattle.protocol_values.specs.Values.{bases_meet, directions_meet, is_on, joined_of, next_row};
 ghost use Rattle.protocol_values.specs.Scopes.{has_scope};
@@ -121,6 +121,9 @@ impl Default for Offer {
         }
     }
 }
+
+/// The most syncs that a thread of a journal makes: 65,535 tables of 1,024 rows.
+pub const MOST_ROWS: u32 = 67_107_840;
 
 /// One sync of a thread: thread 0 to 63, sync 0 to 1023 in a table and 0 to 67107839 in a journal.
 #[derive(Clone, Copy, Debug, PartialEq, Eq)]
@@ -243,6 +246,25 @@ pub enum Cause {
     End(u8),
 }
 
+impl Cause {
+    /// What the row is given: an always gives its message, a nack and an end the empty one.
+    pub fn message(self) -> Message
+        ensures { result ≡ message_by self }
+    {
+        match self {
+            Cause::Always(message) => message,
+            Cause::Nack(_) | Cause::End(_) => Message::Empty,
+        }
+    }
+}
+
+/// What a commit gives one of its rows: the number of the offer that was taken, and the message.
+#[derive(Clone, Copy, Debug, PartialEq, Eq)]
+pub struct RowResult {
+    pub at: (Row, u8),
+    pub message: Message,
+}
+
 /// One rendezvous, or one commit that stands alone. A row goes with the number of its offer.
 #[derive(Clone, Copy, Debug, PartialEq, Eq)]
 pub enum Commit {
@@ -261,6 +283,45 @@ pub enum Commit {
 }
 
 impl Commit {
+    /// Its stamp, which is at least 1.
+    pub fn stamp(&self) -> u32
+        ensures { result ≡ stamp_of self.now }
+    {
+        match self {
+            Commit::Pair { stamp, .. } | Commit::Alone { stamp, .. } => *stamp,
+        }
+    }
+
+    /// What the row that it names first is given, and of a pair what its receiver is given.
+    pub fn gives(&self) -> (RowResult, Option<RowResult>)
+        ensures { result ≡ gives self.now }
+    {
+        match *self {
+            Commit::Pair {
+                sender,
+                receiver,
+                msg,
+                ..
+            } => (
+                RowResult {
+                    at: sender,
+                    message: Message::Empty,
+                },
+                Some(RowResult {
+                    at: receiver,
+                    message: msg,
+                }),
+            ),
+            Commit::Alone { at, cause, .. } => (
+                RowResult {
+                    at,
+                    message: cause.message(),
+                },
+                None,
+            ),
+        }
+    }
+
     /// By what the commits of a journal are in order: the stamp, and the thread named first.
     pub fn order(&self) -> (u32, u8)
         ensures { result ≡ order_of self.now }

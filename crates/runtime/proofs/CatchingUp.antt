@@ -19,7 +19,7 @@ use Rattle.thread.specs.Ranges.{BaseIsIn, MessageIsIn}
 use Rattle.protocol.specs.Acting.{ActsAs, Before, acts_in}
 use Rattle.protocol.specs.Ledgers.{HasCommit, IsLawful, Ledger, Offers, offer_in}
 use Rattle.protocol.specs.Standing.{Gives, Result}
-use Rattle.protocol.proofs.Closing.{each_pushed}
+use Rattle.protocol_ledger.proofs.Closing.{each_pushed}
 use Rattle.cell.proofs.Lists.{all_one}
 use Rattle.journal_replay.specs.Runs.{message_by}
 use Rattle.runtime_worker.specs.declared.resident.Suspended.{Suspended}
@@ -27,9 +27,9 @@ use Rattle.runtime_worker.specs.Machines.{AreFirst, doings}
 use Rattle.runtime_worker.proofs.Processes.{process_of}
 use Rattle.runtime_worker.proofs.Ranging.{base_in_range}
 use Rattle.runtime_worker.proofs.Spawns.{resumed_is}
-use Rattle.runtime.specs.Machines.{AreLeftBy, StandsOver}
+use Rattle.runtime_run.specs.Machines.{AreLeftBy, StandsOver}
 use Rattle.runtime.specs.Between.{AreHad, CatchesUp, CatchesUpAt, CatchesUpWith, GiveInRange, GoesOnBy, HasResults, had_by}
-use Rattle.runtime.proofs.Resting.{get_set_other, get_set_same}
+use Rattle.runtime_run.proofs.Resting.{get_set_other, get_set_same}
 
 -- ONE MACHINE
 

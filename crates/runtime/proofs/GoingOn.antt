@@ -22,11 +22,11 @@ use Rattle.protocol.specs.Ledgers.{HasCommit, IsLawful, Ledger, LivesAt, Takes, 
 use Rattle.protocol.specs.Openings.{Opening, TellsEnd, TellsNack, life_of, state_in, thread_in, word_for}
 use Rattle.protocol.specs.Standing.{AreResults, Result}
 use Rattle.protocol.specs.Tables.{bound_row, carried_by}
-use Rattle.protocol.specs.declared.opening.Life.{Life}
-use Rattle.protocol.specs.declared.opening.Life.TheVariants as life
-use Rattle.protocol.specs.declared.opening.NackState.{NackState}
-use Rattle.protocol.specs.declared.opening.NackState.TheVariants as nack
-use Rattle.protocol.proofs.Results.{one-results}
+use Rattle.protocol_ledger.specs.declared.opening.Life.{Life}
+use Rattle.protocol_ledger.specs.declared.opening.Life.TheVariants as life
+use Rattle.protocol_ledger.specs.declared.opening.NackState.{NackState}
+use Rattle.protocol_ledger.specs.declared.opening.NackState.TheVariants as nack
+use Rattle.protocol_ledger.proofs.Results.{one-results}
 use Rattle.cell.specs.Calls.{GridOf, opening_at}
 use Rattle.cell_table.specs.Rule.{AreMachines}
 use Rattle.cell_table.specs.Sight.{WasSettled}
@@ -37,7 +37,7 @@ use Rattle.runtime_worker.specs.Machines.{AreFirst, AreNew, IsAtSync, IsTable}
 use Rattle.runtime_worker.specs.Widths.{AllOfferAtMost}
 use Rattle.runtime_worker.proofs.Machines.{has_scope}
 use Rattle.runtime_worker.proofs.Processes.{process_of}
-use Rattle.runtime.specs.Machines.{AreLeftBy, StandsOver}
+use Rattle.runtime_run.specs.Machines.{AreLeftBy, StandsOver}
 use Rattle.runtime.specs.Season.{IsClosed, IsLedgerOver, IsTableOf, NoneSettledWaits}
 use Rattle.runtime.specs.declared.season.ClosedSeason.{ClosedSeason}
 use Rattle.runtime.specs.Between.{AreHad, GoOnBelow, GoesOnFrom, HasResults, count_in, had_by}

@@ -5,7 +5,7 @@ use Rattle.std.proofs.lemmas.List.{length-set}
 use Rattle.std.proofs.lemmas.Option.{same_Some}
 use Rattle.thread.specs.Machines.{Thread}
 use Rattle.runtime.specs.Between.{AreKept}
-use Rattle.runtime.proofs.Resting.{get_set_other, get_set_same}
+use Rattle.runtime_run.proofs.Resting.{get_set_other, get_set_same}
 
 pub kept_none : (old machines : List (Option Thread)) → AreKept old machines old
 kept_none old machines = record { count = refl; each = λ t m is. inl is }

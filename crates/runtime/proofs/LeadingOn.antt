@@ -21,10 +21,10 @@ use Rattle.thread.specs.Machines.{Broken, HasStopped, IsAfterAt, IsOpen, Open, O
 use Rattle.protocol.specs.Acting.{ActsAs, before_of}
 use Rattle.protocol.specs.Ledgers.{HasCommit, Ledger, Takes}
 use Rattle.protocol.specs.Openings.{HadEnded, HadStarted, IsOpening, Opening, greatest, opening_of, thread_in}
-use Rattle.protocol.specs.declared.opening.Life.{Life}
-use Rattle.protocol.specs.declared.opening.Life.TheVariants as life
-use Rattle.protocol.proofs.Beginning.{thread_below}
-use Rattle.protocol.proofs.Results.{gives-involves}
+use Rattle.protocol_ledger.specs.declared.opening.Life.{Life}
+use Rattle.protocol_ledger.specs.declared.opening.Life.TheVariants as life
+use Rattle.protocol_ledger.proofs.Beginning.{thread_below}
+use Rattle.protocol_ledger.proofs.Results.{gives-involves}
 use Rattle.cell.specs.Calls.{GridOf, opening_at}
 use Rattle.journal_replay.specs.Gathering.{HasGone}
 use Rattle.journal_replay.specs.Runs.{Config, HasRow, IsRun, config_of, no_results}
@@ -47,19 +47,19 @@ use Rattle.runtime_worker.proofs.Processes.{process_of, spawned_fewer}
 use Rattle.runtime_worker.specs.declared.resident.Suspended.{Suspended}
 use Rattle.runtime_worker.specs.Machines.{AreFirst, IsAtEnd}
 use Rattle.runtime.specs.Between.{AreHad, AreKept, CatchesUpAll, GoOnBelow, GoesOnFrom, HasResults, SomeIsSpent, had_by, numbered, renumbered}
-use Rattle.runtime.specs.Machines.{AreLeftBy, StandsOver}
+use Rattle.runtime_run.specs.Machines.{AreLeftBy, StandsOver}
 use Rattle.runtime.specs.Played.{ArePlayed, NeedsOneMore, OneMore, PlaysSeason}
 use Rattle.runtime.specs.Season.{EndsRun, HaveCaughtUp, HaveResultsOf, IsClosed, IsLedgerOver, IsTableOf, LeadsTo}
 use Rattle.runtime.specs.declared.season.ClosedSeason.{ClosedSeason}
-use Rattle.runtime.specs.Syncs.{AllSyncAtMost}
+use Rattle.runtime_run.specs.Syncs.{AllSyncAtMost}
 use Rattle.runtime.specs.declared.season.Next.{Next}
 use Rattle.runtime.specs.declared.season.Next.TheVariants as following
 use Rattle.runtime.specs.declared.season.Standing.{Standing}
 use Rattle.runtime.proofs.CatchingUp.{give_in_range}
 use Rattle.runtime.proofs.GoingOn.{contains_at, place_of_commit, stands_first, takes_offered, waited}
-use Rattle.runtime.proofs.Ledgers.{acts_as, ends_as}
-use Rattle.runtime.proofs.Resting.{contains_map}
-use Rattle.runtime.proofs.Syncs.{offers_below}
+use Rattle.runtime_run.proofs.Ledgers.{acts_as, ends_as}
+use Rattle.runtime_run.proofs.Resting.{contains_map}
+use Rattle.runtime_run.proofs.Syncs.{offers_below}
 
 -- THE NUMBERS of a table's syncs, which have room
 small : (a b : ℕ) → a + b ≤ 4294967295 → min (a + b) 4294967295 ≡ a + b

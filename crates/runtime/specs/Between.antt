@@ -3,21 +3,21 @@ use Rattle.std.specs.Prelude.{◌≡◌, ◌⊎◌, ◌+◌, ◌<◌, ◌≤◌,
 use Rattle.protocol_values.specs.declared.Commit.{Commit}
 use Rattle.protocol_values.specs.declared.Commit.TheVariants.{Pair, Alone}
 use Rattle.protocol_values.specs.declared.Message.{Message}
-use Rattle.protocol_values.specs.declared.Message.TheVariants.{Empty}
 use Rattle.protocol_values.specs.declared.Row.{Row}
+use Rattle.protocol_values.specs.declared.RowResult.{RowResult}
+use Rattle.protocol_values.specs.Commits.{gives}
 use Rattle.script_tree.specs.Processes.{Proc}
 use Rattle.thread.specs.After.{Chosen}
 use Rattle.thread.specs.Machines.{HasStopped, IsAfter, IsOpen, SameProcess, StartsAs, Thread}
 use Rattle.thread.specs.Memories.{AddsNew}
 use Rattle.thread.specs.Ranges.{MessageIsIn}
-use Rattle.protocol.specs.declared.opening.Life.{Life}
-use Rattle.protocol.specs.declared.opening.Life.TheVariants.{Unstarted, Running, Ended}
+use Rattle.protocol_ledger.specs.declared.opening.Life.{Life}
+use Rattle.protocol_ledger.specs.declared.opening.Life.TheVariants.{Unstarted, Running, Ended}
 use Rattle.protocol.specs.Ledgers.{HasCommit, Involves, Ledger}
 use Rattle.protocol.specs.Standing.{Gives}
-use Rattle.journal_replay.specs.Runs.{message_by}
 use Rattle.runtime_worker.specs.declared.resident.Suspended.{Suspended}
 use Rattle.runtime_worker.specs.Machines.{AreFirst}
-use Rattle.runtime.specs.Machines.{AreLeftBy}
+use Rattle.runtime_run.specs.Machines.{AreLeftBy}
 
 -- THE RUN'S NUMBERS of syncs: behind those that the thread made in earlier seasons
 
@@ -63,10 +63,13 @@ pub record CatchesUpAt (had : List ℕ) (at : Row × ℕ) (message : Message) (o
   pub is : new ≡ slice_set old at.0.thread (Some behind)
 
 -- with each row of a commit
+abbrev pub CatchesUpEach : List ℕ → RowResult × Option RowResult → List (Option Thread) → List (Option Thread) → Type 0
+CatchesUpEach had (first, None) old new = CatchesUpAt had first.at first.message old new
+CatchesUpEach had (first, Some second) old new =
+    (middle : List (Option Thread)) × CatchesUpAt had first.at first.message old middle × CatchesUpAt had second.at second.message middle new
+
 abbrev pub CatchesUpWith : List ℕ → Commit → List (Option Thread) → List (Option Thread) → Type 0
-CatchesUpWith had (Pair sender receiver chan msg stamp) old new =
-    (middle : List (Option Thread)) × CatchesUpAt had sender Empty old middle × CatchesUpAt had receiver msg middle new
-CatchesUpWith had (Alone at why stamp) old new = CatchesUpAt had at (message_by why) old new
+CatchesUpWith had c old new = CatchesUpEach had (gives c) old new
 
 -- each row of the commit has a machine with its result
 abbrev pub HasResults : List ℕ → List (Option Thread) → Commit → Type 0

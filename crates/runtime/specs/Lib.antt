@@ -1,9 +1,9 @@
+pub use Rattle.runtime_run.specs.Headline
+pub use Rattle.runtime_run.specs.Limits
+pub use Rattle.runtime_run.specs.Machines
+pub use Rattle.runtime_run.specs.Syncs
+pub use Rattle.runtime_run.specs.Workers
 pub mod Between
-pub mod Headline
-pub mod Limits
-pub mod Machines
 pub mod Played
 pub mod Season
 pub mod Seasons
-pub mod Syncs
-pub mod Workers

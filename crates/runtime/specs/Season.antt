@@ -7,7 +7,7 @@ use Rattle.protocol.specs.Acting.{ActsAs, HasStart, acts_in, before_of}
 use Rattle.protocol.specs.Ledgers.{HasCommit, IsLawful, Ledger, carried_in, course_in}
 use Rattle.protocol.specs.Openings.{HadStarted, LeadsOn, Opening, TellsEnd, greatest, opening_of, state_in, thread_in, word_for}
 use Rattle.protocol.specs.Tables.{carried_by}
-use Rattle.protocol.specs.declared.opening.Life.TheVariants.{Unstarted}
+use Rattle.protocol_ledger.specs.declared.opening.Life.TheVariants.{Unstarted}
 use Rattle.cell.specs.Calls.{GridOf, IsNackOf, opening_at}
 use Rattle.cell_table.specs.Sight.{WasSettled}
 use Rattle.runtime_worker.specs.declared.resident.Suspended.{Suspended}
@@ -17,7 +17,7 @@ use Rattle.journal_replay.specs.Runs.{IsRun, config_of}
 use Rattle.journal_order.specs.Behind.{GoesOn, TellsRun, run_on}
 use Rattle.journal.specs.Concluding.{AreGone}
 use Rattle.runtime.specs.Between.{AreHad, HasResults}
-use Rattle.runtime.specs.Machines.{AreLeftBy}
+use Rattle.runtime_run.specs.Machines.{AreLeftBy}
 use Rattle.runtime.specs.Played.{ArePlayed, NeedsOneMore}
 use Rattle.runtime.specs.declared.season.ClosedSeason.{ClosedSeason}
 use Rattle.runtime.specs.declared.season.Next.{Next}

@@ -3,17 +3,16 @@
 ghost use Rattle.std.specs.Prelude.{◌≡◌, ◌≤◌, ◌<◌, ◌+◌, ◌*◌, ℕ, IfOk, List, length, map};
 ghost use Rattle.script_tree.specs.Processes.{Proc};
 ghost use Rattle.script.specs.Scripts.{script_of};
-ghost use Rattle.runtime.specs.Limits.{AreRows, AreWorkers};
+ghost use Rattle.runtime_run.specs.Limits.{AreRows, AreWorkers};
 ghost use Rattle.runtime.specs.Season.{HaveCaughtUp, IsClosed, IsSeason, LeadsTo};
 
 use crate::between::{
     add_renumbered, are_spent, catch_up_all, counts_of, go_on_all, keep_all, none_each,
 };
-use crate::bound::offers_used;
-use crate::running::{first_machines, later, work_table};
 use cell::{Cells, Pass, StepGate};
 use protocol::{Ledger, Opening};
 use protocol_values::Commit;
+use runtime_run::{first_machines, later, offers_used, work_table};
 use runtime_worker::{Gate, Halt, Suspended};
 use script::Script;
 use std::alloc::{AllocError, Global};

@@ -4,19 +4,18 @@ ghost use Rattle.std.specs.Prelude.{◌≡◌, ◌≢◌, ◌↔◌, ◌*◌, �
 ghost use Rattle.protocol_values.specs.declared.Commit.{Commit};
 ghost use Rattle.script.specs.Scripts.{script_of};
 ghost use Rattle.journal.specs.Records.{CompletesRun};
-ghost use Rattle.runtime.specs.Headline.{TellsFreeRun};
-ghost use Rattle.runtime.specs.Limits.{AreRows, AreSeasons, AreWorkers};
+ghost use Rattle.runtime_run.specs.Headline.{TellsFreeRun};
+ghost use Rattle.runtime_run.specs.Limits.{AreRows, AreSeasons, AreWorkers};
 ghost use Rattle.runtime.specs.Played.{ArePlayedWithin, HasSpent, NeedsSeasons};
 ghost use Rattle.runtime.specs.Season.{EndsRun};
 ghost use Rattle.runtime.specs.Seasons.{EndSeasons, IsHalt, RefusesCommits};
 ghost use Rattle.runtime.specs.declared.seasons.SeasonFault.TheVariants.{Workers, Rows, Seasons, SeasonCount, Lost, Unlawful};
 
-use crate::bound::rows_used;
-use crate::gate::TurnsOnly;
 use crate::season::{Next, Standing, first_season, follow, play_season};
 use cell::StepGate;
 use journal::{End, Record, conclude_run, retrace_run};
 use protocol_values::Commit;
+use runtime_run::{TurnsOnly, rows_used};
 use runtime_worker::{Gate, Halt};
 use script::Script;
 use std::alloc::{AllocError, Global};

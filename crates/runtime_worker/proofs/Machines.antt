@@ -17,8 +17,8 @@ use Rattle.thread.specs.After.{Chosen}
 use Rattle.thread.specs.Machines.{Broken, IsOpen, Open, Over, Phase, Ready, StartsAs, Stuck, Tells, nacks_in, offers_in}
 use Rattle.thread.specs.declared.machine.Turn.TheVariants as turn
 use Rattle.protocol.specs.Standing.{binding_of}
-use Rattle.protocol.specs.declared.opening.NackState.{NackState}
-use Rattle.protocol.specs.declared.opening.NackState.TheVariants.{Unbound}
+use Rattle.protocol_ledger.specs.declared.opening.NackState.{NackState}
+use Rattle.protocol_ledger.specs.declared.opening.NackState.TheVariants.{Unbound}
 use Rattle.protocol.specs.Openings.{Opening, start_opening, state_in, word_for}
 use Rattle.protocol.specs.Tables.{bound_row, carried_by}
 use Rattle.protocol.specs.Worlds.{nack_of_row}

@@ -12,8 +12,8 @@ use Rattle.protocol.specs.Kept.{Kept}
 use Rattle.protocol.specs.Acting.{EachEnded, EachStarted, acts_in}
 use Rattle.protocol.specs.Ledgers.{ledger_of, IsLawful}
 use Rattle.protocol.specs.Standing.{AreResults, EachStands, SomeStands}
-use Rattle.protocol.proofs.Beginning.{first_binding, first_cell, first_course, first_says}
-use Rattle.protocol.proofs.LedgerLemmas.{kept_opening, lawful_ledger}
+use Rattle.protocol_ledger.proofs.Beginning.{first_binding, first_cell, first_course, first_says}
+use Rattle.protocol_ledger.proofs.LedgerLemmas.{kept_opening, lawful_ledger}
 use Rattle.cell_table.specs.Laws.{IsNackThere, StandsFor}
 use Rattle.cell_table.specs.Rule.{IsHome, Move, in_order}
 use Rattle.cell_table.specs.Views.{bind_of, opening_in}

@@ -1,6 +1,6 @@
 -- Every allowed step keeps the world, and a kept world has a lawful ledger.
-use Rattle.protocol.proofs.Going.{start_opens}
-use Rattle.protocol.proofs.LedgerLemmas.{lawful_from_start, lawful_schedule, start_begins}
+use Rattle.protocol_ledger.proofs.Going.{start_opens}
+use Rattle.protocol_ledger.proofs.LedgerLemmas.{lawful_from_start, lawful_schedule, start_begins}
 use Rattle.protocol.proofs.every_schedule_is_lawful.Goals as goal
 
 pub returns-clause-lawful : goal.returns-clause-lawful

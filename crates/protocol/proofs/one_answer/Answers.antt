@@ -1,4 +1,4 @@
-use Rattle.protocol.proofs.Playing.{plays_one, played_not_refused, one_refused}
+use Rattle.protocol_ledger.proofs.Playing.{plays_one, played_not_refused, one_refused}
 use Rattle.protocol.proofs.one_answer.Goals as goal
 
 pub returns : goal.returns

@@ -1,4 +1,4 @@
-use Rattle.protocol.proofs.Onward.{commits-stay, tables-grow}
+use Rattle.protocol_ledger.proofs.Onward.{commits-stay, tables-grow}
 use Rattle.protocol.proofs.what_is_committed_stays.Goals as goal
 
 pub returns : goal.returns

@@ -3,7 +3,7 @@ use Rattle.protocol_values.specs.declared.Direction.{Direction}
 use Rattle.protocol_values.specs.declared.Row.{Row}
 use Rattle.std.specs.Prelude.{Option}
 use Rattle.protocol_values.specs.Words.{IsJoinedInRange}
-use Rattle.protocol.proofs.Linking.{some_inj}
+use Rattle.protocol_ledger.proofs.Linking.{some_inj}
 use Rattle.cell_table.specs.declared.view.Seen.{Seen}
 use Rattle.cell_table.specs.Sight.{Has, HaveDirection, IsBefore, SeesDirection, CanJoin, next_stamp}
 use Rattle.protocol_values.specs.Values.{directions_meet}

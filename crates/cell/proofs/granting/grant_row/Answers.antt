@@ -1,7 +1,7 @@
 use Rattle.std.proofs.Common.{rules, ◌≡◌, ℕ, ◌+◌, None, Some, sym, ap, ◌∙◌, min, subst}
 use Rattle.protocol_values.specs.declared.Offer.{Offer}
 use Rattle.protocol_values.specs.Words.{IsJoinedInRange}
-use Rattle.protocol.proofs.Linking.{some_inj}
+use Rattle.protocol_ledger.proofs.Linking.{some_inj}
 use Rattle.cell.specs.Attempts.{IsNearGrant}
 use Rattle.cell_table.specs.Nacks.{CanGrant, IsReadyAlone, SawCause}
 use Rattle.cell_table.specs.Sight.{Has, HaveOffer}

@@ -4,7 +4,7 @@ use Rattle.protocol_values.specs.declared.Joined.{Joined}
 use Rattle.protocol_values.specs.declared.Row.{Row}
 use Rattle.protocol_values.specs.Scopes.{has_scope}
 use Rattle.protocol.specs.Tables.{bound_row}
-use Rattle.protocol.proofs.Linking.{some_inj}
+use Rattle.protocol_ledger.proofs.Linking.{some_inj}
 use Rattle.cell_table.specs.Nacks.{SawEnabled}
 use Rattle.cell_table.specs.Sight.{Has, Learns, SeesOffer}
 use Rattle.cell_table.proofs.Offers.{sees_more}

@@ -32,9 +32,9 @@ conclude_ordered-requires-clause-machines c =
     let told = c.in_ok-commits.ensures in
     gone-of (map proc_of c.args.processes.now) c.args.rows c.args.ledger.now c.in_ok-commits.commits.items c.args.machines.items told.lawful c.requires.of.0 c.requires.of.1 (record { all = told.once; ordered = told.in_order }) c.requires.machines
 
-pub returns : goal.returns
-returns c =
+pub returns-clause-completes : goal.returns-clause-completes
+returns-clause-completes c =
     let ps : List Proc = map proc_of c.args.processes.now in
     let told = c.in_ok-commits.ensures in
     IfOk-weaker c.conclude_ordered.result (CompletesOrdered ps c.args.rows c.in_ok-commits.commits.items) (Completes ps c.args.rows c.args.ledger.now)
-    (λ r h. h (commits_in c.args.ledger.now) (record { all = told.once; ordered = told.in_order })) c.conclude_ordered.ensures
+    (λ r h. h (commits_in c.args.ledger.now) (record { all = told.once; ordered = told.in_order })) c.conclude_ordered.ensures.completes

@@ -29,9 +29,9 @@ conclude_ordered-requires-clause-machines c =
     let ordered = ordered-is-run ps c.args.rows c.args.commits.items c.in_ok-commits.commits.items c.requires.run sorted.all sorted.ordered in
     gone-moved ps c.args.commits.items c.in_ok-commits.commits.items c.args.machines.items ordered.1 c.requires.machines
 
-pub returns : goal.returns
-returns c =
+pub returns-clause-completes : goal.returns-clause-completes
+returns-clause-completes c =
     let ps : List Proc = map proc_of c.args.processes.now in
     let sorted = c.in_ok-commits.ensures in
     IfOk-weaker c.conclude_ordered.result (CompletesOrdered ps c.args.rows c.in_ok-commits.commits.items) (CompletesRun ps c.args.rows c.args.commits.items)
-    (λ r h. h c.args.commits.items sorted) c.conclude_ordered.ensures
+    (λ r h. h c.args.commits.items sorted) c.conclude_ordered.ensures.completes

@@ -16,4 +16,4 @@ pub returns : goal.returns
 returns c =
     let ps = map proc_of c.args.processes.now in
     let stands = subst (λ (cs : List Commit). StandsAfter ps c.args.rows cs c.in_ok-replayed.replayed) c.deref.ensures.value c.in_ok-replayed.ensures.stands in
-    c.in_ok-record_of.ensures ps c.args.rows stands
+    c.in_ok-record_of.ensures.records ps c.args.rows stands

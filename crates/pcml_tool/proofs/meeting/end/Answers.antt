@@ -1,5 +1,5 @@
 use Rattle.std.proofs.Common.{sym, ◌∙◌, subst}
-use Rattle.protocol.proofs.Acting.{start_is}
+use Rattle.protocol_ledger.proofs.Acting.{start_is}
 use Rattle.protocol.specs.Openings.{HadStarted, Opening}
 use Rattle.protocol.specs.Ledgers.{course_in}
 use Rattle.cell_table.specs.declared.view.Seen.{Seen}

@@ -1,7 +1,7 @@
 -- The holders of the threads so far, and of the thread's rows so far.
 use Rattle.std.proofs.Common.{◌≡◌, ◌++◌, map}
-use Rattle.protocol.specs.Openings.{held_first, opening_of}
-use Rattle.protocol.specs.Tables.{all_rows, rows_below}
+use Rattle.protocol_ledger.specs.Openings.{held_first, opening_of}
+use Rattle.protocol_ledger.specs.Tables.{all_rows, rows_below}
 use Rattle.protocol.proofs.state.next_holders.Given as goal
 
 abbrev pub invariant-loop-thread : goal.invariant-loop-thread

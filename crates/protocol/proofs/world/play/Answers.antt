@@ -2,7 +2,7 @@ use Rattle.protocol_values.specs.declared.Seat.{Seat}
 use Rattle.protocol_values.specs.declared.Step.{Step}
 use Rattle.protocol_values.specs.declared.Step.TheVariants.{Draft}
 use Rattle.protocol.specs.States.{world_of}
-use Rattle.protocol.proofs.Playing.{plays_next, refused_at}
+use Rattle.protocol_ledger.proofs.Playing.{plays_next, refused_at}
 use Rattle.protocol.proofs.world.play.Goals as goal
 
 -- what the loop reads past the end of the schedule

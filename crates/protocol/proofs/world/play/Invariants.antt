@@ -1,6 +1,6 @@
 -- The steps so far are played, and lead to the world as it stands.
 use Rattle.std.proofs.Common.{take}
-use Rattle.protocol.specs.Worlds.{Plays}
+use Rattle.protocol_ledger.specs.Worlds.{Plays}
 use Rattle.protocol.specs.States.{world_of, IsSound}
 use Rattle.protocol.proofs.world.play.Given as goal
 

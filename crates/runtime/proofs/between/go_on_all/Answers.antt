@@ -4,8 +4,8 @@ use Rattle.std.proofs.lemmas.List.{length-append}
 use Rattle.std.proofs.lemmas.Option.{slice_get-get_or, slice_get-map, slice_get_read, slice_get_within}
 use Rattle.script_tree.specs.Processes.{Proc, proc_of}
 use Rattle.thread.specs.Machines.{Thread}
-use Rattle.protocol.specs.declared.opening.Life.{Life}
-use Rattle.protocol.specs.declared.opening.Life.TheVariants as life
+use Rattle.protocol_ledger.specs.declared.opening.Life.{Life}
+use Rattle.protocol_ledger.specs.declared.opening.Life.TheVariants as life
 use Rattle.runtime_worker.specs.declared.resident.Suspended.{Suspended}
 use Rattle.runtime.specs.declared.between.NextThread.{NextThread}
 use Rattle.runtime.specs.Between.{GoOnBelow, GoesOnFrom}

@@ -17,14 +17,14 @@ use Rattle.runtime.proofs.GoingOn.{new_had}
 use Rattle.std.proofs.lemmas.List.{length-replicate}
 use Rattle.protocol_values.specs.declared.Commit.{Commit}
 use Rattle.protocol.specs.Openings.{greatest, start_opening}
-use Rattle.protocol.specs.declared.opening.NackState.TheVariants.{Unbound}
-use Rattle.protocol.proofs.LedgerLemmas.{start_greatest, start_threads}
+use Rattle.protocol_ledger.specs.declared.opening.NackState.TheVariants.{Unbound}
+use Rattle.protocol_ledger.proofs.LedgerLemmas.{start_greatest, start_threads}
 use Rattle.cell.specs.Calls.{opening_at}
 use Rattle.journal_replay.specs.Runs.{IsRun, config_of}
 use Rattle.journal_replay.proofs.Running.{run-none}
 use Rattle.journal_order.specs.Behind.{TellsRun}
 use Rattle.runtime.specs.declared.season.Season.{Season}
-use Rattle.runtime.proofs.Ledgers.{tells_first}
+use Rattle.runtime_run.proofs.Ledgers.{tells_first}
 use Rattle.runtime.proofs.season.first_season.Goals as goal
 
 pub returns : goal.returns
@@ -38,10 +38,10 @@ returns c =
     let some : 1 ≤ length ps = subst (λ (qs : List Proc). 1 ≤ length qs) (sym value) c.requires.some in
     let few : length (map proc_of c.processes-processes.result.now) ≤ 64 = (search rules) in
     let rows : (1 ≤ c.in_ok-cells.cells.rows) × (c.in_ok-cells.cells.rows ≤ 1024) = (search rules) in
-    let table : IsTable cells = table_of_first cells ps (map Some c.in_ok-first.first.items) is c.in_ok-first.ensures some few c.processes-processes.ensures.placed
+    let table : IsTable cells = table_of_first cells ps (map Some c.in_ok-first.first.items) is c.in_ok-first.ensures.new some few c.processes-processes.ensures.placed
     (subst AreSpawnedOnce (sym value) c.processes-processes.ensures.limits.once)
     (subst (λ (n : ℕ). AllOfferAtMost n ps) (sym c.in_ok-cells.ensures.room) c.offers_used.ensures.enough) rows (length c.in_ok-first.first.items) c.later.result c.in_ok-cells.ensures.opening in
-    let new : AreNew ps cells.first = subst (λ (l : List (Option Suspended)). AreNew ps l) (sym is) c.in_ok-first.ensures in
+    let new : AreNew ps cells.first = subst (λ (l : List (Option Suspended)). AreNew ps l) (sym is) c.in_ok-first.ensures.new in
     let none : c.in_ok-had.had.items ≡ replicate c.len.result 0 = c.in_ok-had.ensures.items_if_clones_equal (λ y h. search rules) in
     let opens : opening_at cells ≡ start_opening (length c.in_ok-first.first.items) c.later.result = c.in_ok-cells.ensures.opening in
     let few_first : length c.in_ok-first.first.items ≤ 64 = (search rules) in

@@ -3,7 +3,7 @@ use Rattle.std.proofs.lemmas.List.{length-map}
 use Rattle.std.proofs.lemmas.Option.{slice_get-get_or}
 use Rattle.script_tree.specs.Processes.{Proc, proc_of}
 use Rattle.script.specs.Scripts.{script_of}
-use Rattle.protocol.specs.declared.opening.Life.{Life}
+use Rattle.protocol_ledger.specs.declared.opening.Life.{Life}
 use Rattle.protocol.specs.Openings.{Opening, greatest}
 use Rattle.cell_table.specs.declared.view.Seen.{Seen}
 use Rattle.journal_replay.specs.Runs.{IsRun}

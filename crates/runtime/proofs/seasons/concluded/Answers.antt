@@ -1,7 +1,7 @@
 use Rattle.std.proofs.Common.{subst, sym}
 use Rattle.script.specs.Scripts.{script_of}
 use Rattle.runtime.specs.Played.{HasSpent}
-use Rattle.runtime.proofs.Completed.{free}
+use Rattle.runtime_run.proofs.Completed.{free}
 use Rattle.runtime.proofs.seasons.concluded.Goals as goal
 
 pub returns-then-has_spent-clause-refuses : goal.returns-then-has_spent-clause-refuses

@@ -3,7 +3,7 @@ use Rattle.std.proofs.lemmas.Nat.{mul-le}
 use Rattle.script.specs.Scripts.{script_of}
 use Rattle.runtime.specs.Played.{NeedsOneMore}
 use Rattle.runtime.specs.Season.{LeadsTo}
-use Rattle.runtime.specs.Syncs.{AllSyncAtMost}
+use Rattle.runtime_run.specs.Syncs.{AllSyncAtMost}
 use Rattle.runtime.proofs.LeadingOn.{all_rows, ends_wider}
 use Rattle.runtime.proofs.seasons.work_seasons.Goals as goal
 

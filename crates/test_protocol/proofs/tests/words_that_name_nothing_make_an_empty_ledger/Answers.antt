@@ -1,5 +1,5 @@
 use Rattle.std.proofs.Common.{◌≤◌, arith, rules}
-use Rattle.protocol.proofs.LedgerLemmas.{lawful_start}
+use Rattle.protocol_ledger.proofs.LedgerLemmas.{lawful_start}
 use Rattle.test_protocol.proofs.tests.words_that_name_nothing_make_an_empty_ledger.Goals as goal
 
 pub of_words-ledger-requires-clause-lawful : goal.of_words-ledger-requires-clause-lawful

@@ -1,10 +1,10 @@
 use Rattle.std.proofs.Common.{rules, ◌≡◌, ◌∙◌, ℕ, List, Option, [], length, slice_get, Some, ap, sym, subst}
 use Rattle.std.specs.Prelude.{IfOk}
 use Rattle.protocol.specs.Openings.{IsOpening, Opening, opening_of, start_opening}
-use Rattle.protocol.proofs.LedgerLemmas.{start_threads}
+use Rattle.protocol_ledger.proofs.LedgerLemmas.{start_threads}
 use Rattle.cell.specs.Calls.{IsPassOf, PassOf}
 use Rattle.cell_table.specs.Rule.{AreMachines, dealt_from, seen_nothing}
-use Rattle.protocol.proofs.Going.{start_opens}
+use Rattle.protocol_ledger.proofs.Going.{start_opens}
 use Rattle.cell.proofs.Beginning.{first_machines}
 use Rattle.cell.proofs.cells.Cells.with_machines_short.Goals as goal
 

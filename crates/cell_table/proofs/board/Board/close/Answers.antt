@@ -3,8 +3,8 @@ use Rattle.protocol.specs.Ledgers.{IsLawful, Ledger, ledger_of, binding_in, carr
 use Rattle.cell_table.specs.Views.{opening_in}
 use Rattle.protocol.specs.Acting.{ActsAs, EndsAt, HasStart, acts_in, before_of}
 use Rattle.protocol.specs.Standing.{AreResults}
-use Rattle.protocol.proofs.LedgerLemmas.{course_in_ledger, offer_in_ledger}
-use Rattle.protocol.proofs.Readings.{course_outside}
+use Rattle.protocol_ledger.proofs.LedgerLemmas.{course_in_ledger, offer_in_ledger}
+use Rattle.protocol_ledger.proofs.Readings.{course_outside}
 use Rattle.std.specs.Slots.{slots_items}
 use Rattle.cell_table.specs.Closings.{AreInTurn, HandedOut, IsHomeOf}
 use Rattle.protocol.specs.Short.{wide_table}

@@ -1,6 +1,6 @@
 use Rattle.std.proofs.Common.{◌≡◌, ◌*◌, arith}
 use Rattle.protocol.specs.Short.{row_len, short_len}
-use Rattle.protocol.proofs.Short.{short_inside}
+use Rattle.protocol_ledger.proofs.Short.{short_inside}
 use Rattle.cell_table.proofs.board.Board.place.Goals as goal
 
 pub returns : goal.returns

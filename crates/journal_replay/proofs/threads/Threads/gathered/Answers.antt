@@ -2,12 +2,13 @@ use Rattle.std.proofs.Common.{Option, ◌≡◌, ◌<◌, ◌+◌, ◌++◌, ◌
 use Rattle.std.specs.Option.{option_map}
 use Rattle.std.proofs.lemmas.List.{length-append, length-map, length_push}
 use Rattle.std.proofs.lemmas.Option.{slice_get-map, slice_get_read}
-use Rattle.script_tree.specs.Processes.{proc_of}
+use Rattle.script_tree.specs.Processes.{proc_of, tree_of}
 use Rattle.script_tree.specs.Spawning.{spawner}
 use Rattle.journal_replay.specs.declared.strand.Known.{Known}
 use Rattle.journal_replay.specs.declared.strand.Strand.{Strand}
 use Rattle.journal_replay.specs.Gathering.{Gathers}
 use Rattle.journal_replay.proofs.Gathered.{GatheredSo, gathered-more, gathered-none}
+use Rattle.journal_replay.proofs.Lines.{TreesSo, trees-all, trees-more, trees-none}
 use Rattle.journal_replay.proofs.Lists.{slice_get-middle}
 use Rattle.journal_replay.proofs.Waking.{later-more}
 use Rattle.journal_replay.proofs.threads.Threads.gathered.Goals as goal
@@ -17,6 +18,7 @@ loop-part-init c = record {
   whole = sym c.into_iter-part-iterator.ensures.into_iter_gives.0;
   count = ap (λ (xs : List Strand). length xs) c.new-strands.ensures.items;
   gathered = subst (GatheredSo (map proc_of c.args.processes.now) c.args.known.items) (sym c.new-strands.ensures.items) (gathered-none _ _);
+  trees = subst (TreesSo (map tree_of c.args.processes.now) c.args.known.items) (sym c.new-strands.ensures.items) (trees-none _ _);
   later = λ quiet t low. absurd (omega (arith, low, ap (λ (xs : List Strand). length xs) c.new-strands.ensures.items));
 }
 
@@ -99,20 +101,32 @@ loop-part-preserved c =
     who.each thread c.index.result.now (slice_get_read all (length all) thread c.index.result.now refl many c.index.ensures) in
     let is : Gathers (proc_of process) (spawner (map proc_of ps) (length strands)) (length strands) part strand =
     subst (λ (n : ℕ). Gathers (proc_of process) (spawner (map proc_of ps) n) n part strand) (sym count)
-    (subst (λ (o : Option ℕ). Gathers (proc_of process) o thread part strand) by c.in_ok-gathered.ensures) in
+    (subst (λ (o : Option ℕ). Gathers (proc_of process) o thread part strand) by c.in_ok-gathered.ensures.gathers) in
     let here : slice_get known (length strands) ≡ Some part = next-there known c.loop-part.yielded rest left part (length strands) i.whole c.in-Some.ensures.steps.0 i.count in
     record {
       whole = next-whole known c.loop-part.yielded rest left part i.whole c.in-Some.ensures.steps.0;
       count = ap (λ (xs : List Strand). length xs) c.in_ok-push.ensures.items ∙ length_push strands strand ∙ ap (λ (n : ℕ). n + 1) i.count ∙ sym (length_push c.loop-part.yielded part);
       gathered = subst (GatheredSo (map proc_of ps) known) (sym {A = List Strand} c.in_ok-push.ensures.items) (gathered-more (map proc_of ps) known strands (proc_of process) part strand there here i.gathered is);
+      trees = subst (TreesSo (map tree_of ps) known) (sym {A = List Strand} c.in_ok-push.ensures.items)
+          (trees-more (map tree_of ps) known strands (proc_of process) (spawner (map proc_of ps) (length strands)) (length strands) (tree_of process) part strand
+          (ap (slice_get (map tree_of ps)) count ∙ slice_get-map tree_of ps thread ∙ ap (option_map tree_of) (slice_get_read ps (length ps) thread process refl within c.index-processes-thread.is))
+          here i.trees is c.in_ok-gathered.ensures.tree);
       later = λ quiet t lt. later-more (map proc_of ps) c.loop-part.later (length strands) c.index.result.now i.later
           (by ∙ ap (spawner (map proc_of ps)) (sym count))
           (ap (λ (b : Bool). c.loop-part.later || b) (sym c.is_some.ensures) ∙ quiet) t
           (omega (arith, lt, ap (λ (xs : List Strand). length xs) c.in_ok-push.ensures.items, length_push strands strand));
     }
 
-pub returns : goal.returns
-returns c =
+pub returns-clause-trees : goal.returns-clause-trees
+returns-clause-trees c = λ theirs.
+    let i = c.loop-part.invariant in
+    let whole : length c.args.known.items ≡ length c.loop-part.yielded =
+    omega (arith, ap (λ (xs : List Known). length xs) i.whole, length-append c.loop-part.yielded c.loop-part.part-iterator.rest.items, c.in-None.ensures.steps.0, c.loop-part.part-iterator.rest.ok) in
+    trees-all (map tree_of c.args.processes.now) c.args.known.items c.loop-part.strands.items
+    (omega (arith, i.count, whole, c.requires.count, length-map c.args.processes.now tree_of)) i.trees theirs
+
+pub returns-clause-gathered : goal.returns-clause-gathered
+returns-clause-gathered c =
     let i = c.loop-part.invariant in
     let ps = c.args.processes.now in
     let whole : length c.args.known.items ≡ length c.loop-part.yielded =

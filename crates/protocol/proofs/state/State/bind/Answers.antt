@@ -2,11 +2,11 @@ use Rattle.std.proofs.Common.{arith, ◌≡◌, ◌<◌, sym, refl}
 use Rattle.protocol_values.specs.declared.Cell.TheVariants.{Fresh}
 use Rattle.protocol_values.specs.declared.Step.TheVariants.{Bind}
 use Rattle.protocol_values.specs.declared.NackWord.TheVariants.{Unbound}
-use Rattle.protocol.specs.Tables.{cell_at, nack_says}
-use Rattle.protocol.specs.Worlds.{Holds, with_nack, nack_of_row}
+use Rattle.protocol_ledger.specs.Tables.{cell_at, nack_says}
+use Rattle.protocol_ledger.specs.Worlds.{Holds, with_nack, nack_of_row}
 use Rattle.protocol.specs.States.{world_of}
-use Rattle.protocol.proofs.Keeping.{held_row, kept_condition, nack_of_thread, bind_in_range}
-use Rattle.protocol.proofs.Places.{row_inside}
+use Rattle.protocol_ledger.proofs.Keeping.{held_row, kept_condition, nack_of_thread, bind_in_range}
+use Rattle.protocol_ledger.proofs.Places.{row_inside}
 use Rattle.protocol.proofs.Telling.{tells_bind}
 use Rattle.protocol.proofs.Soundness.{sound_state}
 use Rattle.protocol.proofs.state.State.bind.Goals as goal

@@ -1,8 +1,9 @@
 use Rattle.std.proofs.Common.{arith, ◌≡◌, ◌≤◌, ap, sym, refl, ◌∙◌}
 use Rattle.protocol_values.specs.declared.Step.TheVariants.{Draft}
-use Rattle.protocol.specs.Worlds.{Holds, with_word, Condition}
-use Rattle.protocol.specs.States.{table_of, world_of}
-use Rattle.protocol.proofs.Keeping.{held_row, kept_condition}
+use Rattle.protocol_ledger.specs.Worlds.{Holds, with_word, Condition}
+use Rattle.protocol_ledger.specs.Sheets.{table_of}
+use Rattle.protocol.specs.States.{world_of}
+use Rattle.protocol_ledger.proofs.Keeping.{held_row, kept_condition}
 use Rattle.protocol.proofs.Telling.{tells_draft}
 use Rattle.protocol.proofs.Soundness.{sound_state}
 use Rattle.protocol.proofs.state.State.draft.Goals as goal

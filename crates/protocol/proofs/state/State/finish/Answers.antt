@@ -3,10 +3,11 @@ use Rattle.protocol_values.specs.declared.Course.{Course}
 use Rattle.protocol_values.specs.declared.Course.TheVariants.{Ended}
 use Rattle.protocol_values.specs.declared.Step.TheVariants.{Finish}
 use Rattle.protocol_values.specs.Words.{IsCourseInRange}
-use Rattle.protocol.specs.Tables.{course_at, start_of}
-use Rattle.protocol.specs.Worlds.{IsAlive, StandsAt, ended_at, with_course}
-use Rattle.protocol.specs.States.{table_of, world_of}
-use Rattle.protocol.proofs.Keeping.{end_in_range, kept_condition, stands_inside}
+use Rattle.protocol_ledger.specs.Tables.{course_at, start_of}
+use Rattle.protocol_ledger.specs.Worlds.{IsAlive, StandsAt, ended_at, with_course}
+use Rattle.protocol_ledger.specs.Sheets.{table_of}
+use Rattle.protocol.specs.States.{world_of}
+use Rattle.protocol_ledger.proofs.Keeping.{end_in_range, kept_condition, stands_inside}
 use Rattle.protocol.proofs.Telling.{tells_life}
 use Rattle.protocol.proofs.Soundness.{sound_state}
 use Rattle.protocol.proofs.state.State.finish.Goals as goal

@@ -2,14 +2,14 @@ use Rattle.std.proofs.Common.{◌≡◌, ap, sym, refl, ◌∙◌, None}
 use Rattle.protocol_values.specs.declared.Cell.TheVariants.{Waiting, Claimed}
 use Rattle.protocol_values.specs.declared.Step.TheVariants.{Yield}
 use Rattle.protocol_values.specs.declared.Cell.{Cell}
-use Rattle.protocol.specs.Tables.{names, cell_at}
+use Rattle.protocol_ledger.specs.Tables.{names, cell_at}
 use Rattle.protocol_values.specs.Values.{joined_of}
-use Rattle.protocol.specs.Worlds.{Holds, with_cell, namer_at}
+use Rattle.protocol_ledger.specs.Worlds.{Holds, with_cell, namer_at}
 use Rattle.protocol.specs.States.{world_of}
-use Rattle.protocol.proofs.Keeping.{held_row, kept_condition}
+use Rattle.protocol_ledger.proofs.Keeping.{held_row, kept_condition}
 use Rattle.protocol.proofs.Telling.{tells_plain}
 use Rattle.protocol.proofs.Soundness.{sound_state}
-use Rattle.protocol.proofs.Linking.{none_from}
+use Rattle.protocol_ledger.proofs.Linking.{none_from}
 use Rattle.protocol.proofs.state.State.give_back.Goals as goal
 
 pub namer-requires-clause-row : goal.namer-requires-clause-row

@@ -4,12 +4,13 @@ use Rattle.protocol_values.specs.declared.Offer.{Offer}
 use Rattle.protocol_values.specs.declared.Cell.TheVariants.{Waiting, Synched}
 use Rattle.protocol_values.specs.declared.Step.TheVariants.{Grant}
 use Rattle.protocol_values.specs.Words.{IsJoinedInRange}
-use Rattle.protocol.specs.Tables.{Table, is_fresh, cell_at, joined_at, marks_at, offer_at, cause_of, cause_at}
+use Rattle.protocol_ledger.specs.Tables.{Table, is_fresh, cell_at, joined_at, marks_at, offer_at, cause_of, cause_at}
 use Rattle.protocol_values.specs.declared.Row.{Row}
-use Rattle.protocol.specs.Worlds.{with_cell, granted_by}
-use Rattle.protocol.specs.States.{table_of, world_of}
-use Rattle.protocol.proofs.Keeping.{kept_condition, grant_in_range, waits_unjoined}
-use Rattle.protocol.proofs.Readings.{row_of_open}
+use Rattle.protocol_ledger.specs.Worlds.{with_cell, granted_by}
+use Rattle.protocol_ledger.specs.Sheets.{table_of}
+use Rattle.protocol.specs.States.{world_of}
+use Rattle.protocol_ledger.proofs.Keeping.{kept_condition, grant_in_range, waits_unjoined}
+use Rattle.protocol_ledger.proofs.Readings.{row_of_open}
 use Rattle.protocol.proofs.Telling.{tells_grant}
 use Rattle.protocol.proofs.Soundness.{sound_state}
 use Rattle.protocol.proofs.state.State.grant.Goals as goal

@@ -1,8 +1,8 @@
 -- A row that waits is in no commit, so one more stamp fits.
 use Rattle.std.proofs.Common.{arith}
-use Rattle.protocol.specs.Tables.{offer_at}
+use Rattle.protocol_ledger.specs.Tables.{offer_at}
 use Rattle.protocol.specs.States.{world_of}
-use Rattle.protocol.proofs.Keeping.{next_cause, next_last, waits_unjoined}
+use Rattle.protocol_ledger.proofs.Keeping.{next_cause, next_last, waits_unjoined}
 use Rattle.protocol.proofs.state.State.granted_by.Goals as goal
 
 pub overflow_add-result : goal.overflow_add-result

@@ -1,6 +1,6 @@
 use Rattle.std.proofs.Common.{arith}
-use Rattle.protocol.specs.States.{table_of}
-use Rattle.protocol.proofs.Places.{row_inside}
+use Rattle.protocol_ledger.specs.Sheets.{table_of}
+use Rattle.protocol_ledger.proofs.Places.{row_inside}
 use Rattle.protocol.proofs.state.State.hand.Goals as goal
 
 pub next-next-requires : goal.next-next-requires

@@ -3,12 +3,13 @@ use Rattle.protocol_values.specs.declared.Joined.{Joined}
 use Rattle.protocol_values.specs.declared.Cell.TheVariants.{Waiting, Claimed, Synched}
 use Rattle.protocol_values.specs.declared.Step.TheVariants.{Join}
 use Rattle.protocol_values.specs.Words.{IsJoinedInRange}
-use Rattle.protocol.specs.Tables.{is_fresh, cell_at, offer_at, offers_meet}
-use Rattle.protocol.specs.Worlds.{Holds, with_cell, with_table, namer_at, joined_with}
-use Rattle.protocol.specs.States.{table_of, world_of, Tells}
-use Rattle.protocol.proofs.Linking.{none_from}
-use Rattle.protocol.proofs.Keeping.{held_row, kept_condition, join_in_range, waits_unjoined}
-use Rattle.protocol.proofs.Readings.{row_of_open}
+use Rattle.protocol_ledger.specs.Tables.{is_fresh, cell_at, offer_at, offers_meet}
+use Rattle.protocol_ledger.specs.Worlds.{Holds, with_cell, with_table, namer_at, joined_with}
+use Rattle.protocol_ledger.specs.Sheets.{table_of}
+use Rattle.protocol.specs.States.{world_of, Tells}
+use Rattle.protocol_ledger.proofs.Linking.{none_from}
+use Rattle.protocol_ledger.proofs.Keeping.{held_row, kept_condition, join_in_range, waits_unjoined}
+use Rattle.protocol_ledger.proofs.Readings.{row_of_open}
 use Rattle.protocol.proofs.Telling.{tells_join}
 use Rattle.protocol.proofs.Soundness.{sound_state}
 use Rattle.protocol.proofs.state.State.join.Goals as goal

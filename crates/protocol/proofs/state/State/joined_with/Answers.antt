@@ -1,7 +1,7 @@
 -- A row that waits is in no commit, so one more stamp fits.
 use Rattle.std.proofs.Common.{arith}
 use Rattle.protocol.specs.States.{world_of}
-use Rattle.protocol.proofs.Keeping.{next_last, waits_unjoined}
+use Rattle.protocol_ledger.proofs.Keeping.{next_last, waits_unjoined}
 use Rattle.protocol.proofs.state.State.joined_with.Goals as goal
 
 pub overflow_add-result : goal.overflow_add-result

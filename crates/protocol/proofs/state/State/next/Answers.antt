@@ -1,10 +1,11 @@
 use Rattle.std.proofs.Common.{◌∙◌, ℕ, None, Option, List, arith, ap, length, map, refl}
 use Rattle.std.proofs.lemmas.List.{length-map, length-replicate}
 use Rattle.protocol_values.specs.declared.Row.{Row}
-use Rattle.protocol.specs.Openings.{held_first, opening_of}
-use Rattle.protocol.specs.Tables.{all_rows}
-use Rattle.protocol.proofs.Keeping.{length_all}
-use Rattle.protocol.proofs.Starting.{next_begins, next_sound}
+use Rattle.protocol_ledger.specs.Openings.{held_first, opening_of}
+use Rattle.protocol_ledger.specs.Tables.{all_rows}
+use Rattle.protocol_ledger.proofs.Keeping.{length_all}
+use Rattle.protocol_ledger.proofs.FirstWords.{next_begins}
+use Rattle.protocol.proofs.Starting.{next_sound}
 use Rattle.protocol.proofs.state.State.next.Goals as goal
 
 pub invariant_of-result : goal.invariant_of-result

@@ -2,11 +2,11 @@ use Rattle.std.proofs.Common.{◌≡◌, ap, sym, refl}
 use Rattle.protocol_values.specs.declared.Cell.TheVariants.{Fresh, Waiting}
 use Rattle.protocol_values.specs.declared.Step.TheVariants.{Open}
 use Rattle.protocol_values.specs.declared.Cell.{Cell}
-use Rattle.protocol.specs.Tables.{names, cell_at}
+use Rattle.protocol_ledger.specs.Tables.{names, cell_at}
 use Rattle.protocol_values.specs.Values.{joined_of}
-use Rattle.protocol.specs.Worlds.{Holds, with_cell}
+use Rattle.protocol_ledger.specs.Worlds.{Holds, with_cell}
 use Rattle.protocol.specs.States.{world_of}
-use Rattle.protocol.proofs.Keeping.{held_row, kept_condition}
+use Rattle.protocol_ledger.proofs.Keeping.{held_row, kept_condition}
 use Rattle.protocol.proofs.Telling.{tells_plain}
 use Rattle.protocol.proofs.Soundness.{sound_state}
 use Rattle.protocol.proofs.state.State.open.Goals as goal

@@ -4,14 +4,15 @@ use Rattle.protocol_values.specs.declared.Joined.{Joined}
 use Rattle.protocol_values.specs.declared.Cell.TheVariants.{Claimed, Synched}
 use Rattle.protocol_values.specs.declared.Step.TheVariants.{Seal}
 use Rattle.protocol_values.specs.Words.{IsJoinedInRange}
-use Rattle.protocol.specs.Tables.{cell_at, all_rows, joined_at}
-use Rattle.protocol.specs.Worlds.{World, Holds, with_cell, with_table, with_seal, sealed_by, namer_at, side_of, mirrored}
-use Rattle.protocol.specs.States.{table_of, world_of, Tells}
-use Rattle.protocol.proofs.Linking.{some_inj, fresh_not_joined}
-use Rattle.protocol.specs.Kept.{Kept}
-use Rattle.protocol.proofs.Keeping.{held_row, kept_condition, IsSealing, sealing, sealed_is, seal_in_range}
-use Rattle.protocol.proofs.Naming.{namer_names}
-use Rattle.protocol.proofs.Readings.{row_of_open}
+use Rattle.protocol_ledger.specs.Tables.{cell_at, all_rows, joined_at}
+use Rattle.protocol_ledger.specs.Worlds.{World, Holds, with_cell, with_table, with_seal, sealed_by, namer_at, side_of, mirrored}
+use Rattle.protocol_ledger.specs.Sheets.{table_of}
+use Rattle.protocol.specs.States.{world_of, Tells}
+use Rattle.protocol_ledger.proofs.Linking.{some_inj, fresh_not_joined}
+use Rattle.protocol_ledger.specs.Kept.{Kept}
+use Rattle.protocol_ledger.proofs.Keeping.{held_row, kept_condition, IsSealing, sealing, sealed_is, seal_in_range}
+use Rattle.protocol_ledger.proofs.Naming.{namer_names}
+use Rattle.protocol_ledger.proofs.Readings.{row_of_open}
 use Rattle.protocol.proofs.Telling.{tells_seal}
 use Rattle.protocol.proofs.Soundness.{sound_state}
 use Rattle.protocol.proofs.state.State.seal.Goals as goal

@@ -1,8 +1,8 @@
 -- Behind the rows of a thread that the table has only the place behind the last one can be stood at.
 use Rattle.std.proofs.Common.{◌≡◌, ◌<◌, ◌≤◌, Some, inr, rules, arith}
 use Rattle.protocol.specs.States.{world_of}
-use Rattle.protocol.specs.Worlds.{last_holder}
-use Rattle.protocol.proofs.Keeping.{stands_last}
+use Rattle.protocol_ledger.specs.Worlds.{last_holder}
+use Rattle.protocol_ledger.proofs.Keeping.{stands_last}
 use Rattle.protocol.proofs.state.State.stands_at.Goals as goal
 
 pub returns-then-from-self : goal.returns-then-from-self

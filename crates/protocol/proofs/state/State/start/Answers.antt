@@ -2,10 +2,10 @@ use Rattle.std.proofs.Common.{None, arith, ap, sym, ◌∙◌, List, length, map
 use Rattle.std.proofs.lemmas.List.{length-replicate}
 use Rattle.std.specs.Prelude.{Option, ℕ}
 use Rattle.protocol_values.specs.declared.Row.{Row}
-use Rattle.protocol.specs.Tables.{all_rows}
-use Rattle.protocol.specs.Worlds.{start_world, first_holder}
+use Rattle.protocol_ledger.specs.Tables.{all_rows}
+use Rattle.protocol_ledger.specs.Worlds.{start_world, first_holder}
 use Rattle.protocol.proofs.Starting.{start_sound}
-use Rattle.protocol.proofs.LedgerLemmas.{length_holders}
+use Rattle.protocol_ledger.proofs.LedgerLemmas.{length_holders}
 use Rattle.protocol.proofs.state.State.start.Goals as goal
 
 pub invariant_of-result : goal.invariant_of-result

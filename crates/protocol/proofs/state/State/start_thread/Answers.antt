@@ -4,12 +4,13 @@ use Rattle.protocol_values.specs.declared.Row.{Row}
 use Rattle.protocol_values.specs.declared.Seat.{Seat}
 use Rattle.protocol_values.specs.declared.Step.TheVariants.{Start}
 use Rattle.protocol_values.specs.Words.{IsCourseInRange}
-use Rattle.protocol.specs.Kept.{Kept}
-use Rattle.protocol.specs.Tables.{joined_at, last_stamp, marks_at, number_of}
-use Rattle.protocol.specs.Worlds.{Condition, IsAlive, StandsAt, World, after_step, begun, first_row, with_course}
-use Rattle.protocol.specs.States.{table_of, world_of, Tells}
-use Rattle.protocol.proofs.Keeping.{kept_condition, stamp_in_range}
-use Rattle.protocol.proofs.Places.{row_from}
+use Rattle.protocol_ledger.specs.Kept.{Kept}
+use Rattle.protocol_ledger.specs.Tables.{joined_at, last_stamp, marks_at, number_of}
+use Rattle.protocol_ledger.specs.Worlds.{Condition, IsAlive, StandsAt, World, after_step, begun, first_row, with_course}
+use Rattle.protocol_ledger.specs.Sheets.{table_of}
+use Rattle.protocol.specs.States.{world_of, Tells}
+use Rattle.protocol_ledger.proofs.Keeping.{kept_condition, stamp_in_range}
+use Rattle.protocol_ledger.proofs.Places.{row_from}
 use Rattle.protocol.proofs.Telling.{tells_life}
 use Rattle.protocol.proofs.state.State.start_thread.Goals as goal
 

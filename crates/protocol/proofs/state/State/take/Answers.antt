@@ -3,13 +3,14 @@ use Rattle.protocol_values.specs.declared.Row.{Row}
 use Rattle.protocol_values.specs.declared.Joined.{Joined}
 use Rattle.protocol_values.specs.declared.Cell.{Cell}
 use Rattle.protocol_values.specs.declared.Cell.TheVariants.{Synched, Taken}
-use Rattle.protocol.specs.Tables.{Table, is_row, is_fresh, cell_at, synched_of, names}
+use Rattle.protocol_ledger.specs.Tables.{Table, is_row, is_fresh, cell_at, synched_of, names}
 use Rattle.protocol_values.specs.Values.{joined_of}
-use Rattle.protocol.specs.Worlds.{World, with_cell, with_table, with_take}
-use Rattle.protocol.specs.States.{table_of, world_of, Tells}
-use Rattle.protocol.specs.Kept.{Kept}
-use Rattle.protocol.proofs.Keeping.{kept_took, took, took_world}
-use Rattle.protocol.proofs.Readings.{row_of_open, row_after_cell, joined_ranged}
+use Rattle.protocol_ledger.specs.Worlds.{World, with_cell, with_table, with_take}
+use Rattle.protocol_ledger.specs.Sheets.{table_of}
+use Rattle.protocol.specs.States.{world_of, Tells}
+use Rattle.protocol_ledger.specs.Kept.{Kept}
+use Rattle.protocol_ledger.proofs.Keeping.{kept_took, took, took_world}
+use Rattle.protocol_ledger.proofs.Readings.{row_of_open, row_after_cell, joined_ranged}
 use Rattle.protocol.proofs.Telling.{tells_plain}
 use Rattle.protocol.proofs.state.State.take.Goals as goal
 

@@ -1,8 +1,8 @@
 -- Where no row is joined there are no commits.
-use Rattle.protocol.specs.Openings.{Begins, opening_of}
+use Rattle.protocol_ledger.specs.Openings.{Begins, opening_of}
 use Rattle.protocol.specs.States.{world_of}
 use Rattle.std.proofs.Common.{rules}
-use Rattle.protocol.proofs.LedgerLemmas.{begins_empty}
+use Rattle.protocol_ledger.proofs.LedgerLemmas.{begins_empty}
 use Rattle.protocol.proofs.world.World.next.Goals as goal
 
 pub returns-clause-empty : goal.returns-clause-empty

@@ -1,9 +1,9 @@
 -- Where no row is joined there are no commits.
 use Rattle.std.proofs.Common.{rules, ◌≡◌, ap, ◌∙◌}
-use Rattle.protocol.specs.Ledgers.{commits_in, ledger_of}
+use Rattle.protocol_ledger.specs.Ledgers.{commits_in, ledger_of}
 use Rattle.protocol.specs.States.{world_of}
-use Rattle.protocol.specs.Worlds.{World, start_world}
-use Rattle.protocol.proofs.LedgerLemmas.{start_empty}
+use Rattle.protocol_ledger.specs.Worlds.{World, start_world}
+use Rattle.protocol_ledger.proofs.LedgerLemmas.{start_empty}
 use Rattle.protocol.proofs.world.World.start_later.Goals as goal
 
 pub returns-clause-empty : goal.returns-clause-empty

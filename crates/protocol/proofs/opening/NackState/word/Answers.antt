@@ -1,5 +1,0 @@
-use Rattle.std.proofs.Common.{rules}
-use Rattle.protocol.proofs.opening.NackState.word.Goals as goal
-
-pub returns-in-Enabled : goal.returns-in-Enabled
-returns-in-Enabled c = search rules

@@ -1,8 +1,0 @@
--- No row of the threads so far names this one.
-use Rattle.std.proofs.Common.{◌≡◌, None}
-use Rattle.protocol.specs.Tables.{all_rows, joined_at, namer_of}
-use Rattle.protocol.specs.States.{table_of}
-use Rattle.protocol.proofs.sheet.Sheet.commit_naming.Given as goal
-
-abbrev pub invariant-loop-thread : goal.invariant-loop-thread
-invariant-loop-thread l = namer_of (all_rows l.thread l.self.rows) (joined_at (table_of l.self)) l.row ≡ None

@@ -1,9 +1,0 @@
--- The commits of the thread's rows so far were added.
-use Rattle.std.proofs.Common.{◌≡◌, ◌++◌}
-use Rattle.protocol.specs.Tables.{rows_below, joined_at, offer_at}
-use Rattle.protocol.specs.Ledgers.{commits_of}
-use Rattle.protocol.specs.States.{table_of}
-use Rattle.protocol.proofs.sheet.Sheet.tell.Given as goal
-
-abbrev pub invariant-loop-sync : goal.invariant-loop-sync
-invariant-loop-sync l = l.commits.items ≡ l.fn.commits.items ++ commits_of (rows_below l.thread l.sync) (joined_at (table_of l.self)) (offer_at (table_of l.self))

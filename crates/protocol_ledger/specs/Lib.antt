@@ -1,0 +1,12 @@
+pub use Rattle.protocol_values.specs.Words
+pub mod Tables
+pub mod Worlds
+pub mod Ledgers
+pub mod Stamps
+pub mod Kept
+pub mod Growing
+pub mod Standing
+pub mod Acting
+pub mod Openings
+pub mod Short
+pub mod Sheets

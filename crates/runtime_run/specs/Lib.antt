@@ -1,0 +1,5 @@
+pub mod Headline
+pub mod Limits
+pub mod Machines
+pub mod Syncs
+pub mod Workers
