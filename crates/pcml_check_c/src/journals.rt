@@ -7,13 +7,11 @@ ghost use Rattle.pcml_check_c.specs.declared.refusal.Refusal.TheVariants.{Form a
 use crate::names::names_in;
 use crate::refusal::Refusal;
 use crate::told::{Code, Told};
-use pcml_request::Form;
+use pcml_request::{Drawing, Form};
 use pcml_texts::{ChartFault, Judged, chart_journal, judge_journal};
+use protocol_values::MOST_ROWS;
 use script::parse;
 use std::alloc::Global;
-
-/// The most rows of a process, in all seasons.
-const MOST_ROWS: u32 = 67107840;
 
 /// Where the journal leads the script's processes.
 pub(crate) fn judged(
@@ -83,7 +81,13 @@ pub(crate) fn drawn(
     let as_form = form_of(form)?;
     let names = names_in(only)?;
     let script = parse(alloc, script)?;
-    match chart_journal(alloc, &script, journal, rows, names, from, to, as_form) {
+    let drawing = Drawing {
+        from,
+        to,
+        only: names,
+        form: as_form,
+    };
+    match chart_journal(alloc, &script, journal, rows, &drawing) {
         Ok(text) => Ok(Told {
             code: Code::Done,
             line: 0,

@@ -1,5 +1,8 @@
 //! What can be asked for.
 
+ghost use Rattle.std.specs.Prelude.{◌≡◌, ◌≤◌};
+ghost use Rattle.pcml_request.specs.Requests.{all_rows};
+
 use pcml_explain::Topic;
 
 /// Which outcomes are to be told: each, those in which some named process is left waiting, or those in which one of the
@@ -110,4 +113,16 @@ pub enum Request<'a> {
     Meet(u32),
     /// What comes of the schedule in the file of this name.
     Play(&'a str),
+}
+
+/// How many rows a process has in all seasons, of so many rows in each; in one where no number of seasons is named.
+pub fn all_rows(rows: u16, seasons: Option<u16>) -> u32
+    requires { rows ≤ 1024 }
+    ensures value { result ≡ all_rows rows seasons }
+    ensures few { result ≤ 67107840 }
+{
+    match seasons {
+        Some(seasons) => u32::from(seasons) * u32::from(rows),
+        None => u32::from(rows),
+    }
 }

@@ -24,11 +24,12 @@ fn range_objection(asked: &Request<'_>) -> Option<&'static str>
         | Request::Run(Running { rows, .. })
         | Request::Outcomes(Search { rows, .. })
             if *rows > 1024 => { Some("a process makes at most 1024 syncs in a season") }
-        Request::OfJournal(OfJournal {
-            question: Question::Chart(Drawing { from, to, .. }),
-            ..
-        })
-            if from > to => { Some("no stamp is from the one to the other") }
+        Request::OfJournal(
+            OfJournal {
+                question: Question::Chart(Drawing { from, to, .. }),
+                ..
+            },
+        ) if from > to => { Some("no stamp is from the one to the other") }
         Request::Outcomes(Search { limit: 0, .. }) => Some("at least one configuration is seen"),
         Request::Outcomes(Search { of: Some(0), .. }) => Some("the outcomes are numbered from 1"),
         _ => None,

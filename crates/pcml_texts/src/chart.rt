@@ -12,7 +12,7 @@ use journal_replay::State;
 use journal_text::JournalFault;
 use pcml_answers::{NamesFault, named_or_all};
 use pcml_chart::{chart_text, mermaid_text};
-use pcml_request::Form;
+use pcml_request::{Drawing, Form};
 use protocol_values::Commit;
 use script::Script;
 use std::alloc::{AllocError, Global};
@@ -66,14 +66,13 @@ fn drawn(
     state: &State,
     own: &[bool],
     commits: &[Commit],
-    from: u32,
-    to: u32,
-    form: Form,
+    drawing: &Drawing<'_>,
 ) -> Result<Vec<u8>, AllocError>
     requires threads { thread_count state.now ≡ length (script_of script.now).processes }
     requires columns { length own.now ≡ length (script_of script.now).processes }
-    ensures { IfOk result (λ text. Draws form (script_of script.now) state.now own.now commits.now from to text.items) }
+    ensures { IfOk result (λ text. Draws drawing.now.form (script_of script.now) state.now own.now commits.now drawing.now.from drawing.now.to text.items) }
 {
+    let Drawing { from, to, form, .. } = *drawing;
     match form {
         Form::Svg => Ok(chart_text(alloc, script, state, own, commits, from, to)?.into_bytes()),
         Form::Mermaid => mermaid_text(alloc, script, state, own, commits, from, to),
@@ -88,28 +87,16 @@ pub fn chart_journal(
     script: &Script,
     journal: &[u8],
     rows: u32,
-    only: Option<&str>,
-    from: u32,
-    to: u32,
-    form: Form,
+    drawing: &Drawing<'_>,
 ) -> Result<Vec<u8>, ChartFault>
     requires { rows ≤ 67107840 }
-    ensures charted { IfOk result (λ text. IsCharted (script_of script.now) rows journal.now (option_copied only.entry) from to form text.items) }
-    ensures fault { IfErr result (ExplainsChart (script_of script.now) rows journal.now (option_copied only.entry)) }
+    ensures charted { IfOk result (λ text. IsCharted (script_of script.now) rows journal.now (option_copied drawing.now.only) drawing.now.from drawing.now.to drawing.now.form text.items) }
+    ensures fault { IfErr result (ExplainsChart (script_of script.now) rows journal.now (option_copied drawing.now.only)) }
 {
     match reach(alloc, script, journal, rows)? {
         Reached::Run(commits, state) => {
-            let own = named_or_all(alloc, script, only)?;
-            let text = drawn(
-                alloc,
-                script,
-                &state,
-                &own,
-                commits.as_slice(),
-                from,
-                to,
-                form,
-            )?;
+            let own = named_or_all(alloc, script, drawing.only)?;
+            let text = drawn(alloc, script, &state, &own, commits.as_slice(), drawing)?;
             Ok(text)
         }
         Reached::NoRun { index, .. } => Err(ChartFault::NoRun(index + 1)),

@@ -19,4 +19,4 @@ pub use crate::next::next_journal;
 pub use crate::replay::{Judged, Replayed, judge_journal, replay_laws, replay_text};
 pub use crate::searching::asked_of;
 pub use crate::stats::stats_journal;
-pub use crate::why::{why_journal, why_run};
+pub use crate::why::{why_journal, why_standing};

@@ -7,7 +7,7 @@ ghost use Rattle.script.specs.Lines.{trees_of_script};
 ghost use Rattle.script.specs.Scripts.{script_of};
 ghost use Rattle.journal_replay.specs.Lines.{trees_in};
 ghost use Rattle.journal_replay.specs.Replays.{StandsAfter};
-ghost use Rattle.journal_replay.specs.Runs.{BreaksOffAt, IsRun};
+ghost use Rattle.journal_replay.specs.Runs.{BreaksOffAt};
 ghost use Rattle.journal_text.specs.Answers.{Explains};
 ghost use Rattle.journal_text.specs.Journals.{HasLine};
 ghost use Rattle.journal_text.specs.Names.{names_of};
@@ -16,7 +16,7 @@ ghost use Rattle.pcml_texts.specs.Why.{IsWhyOf, TellsReason, TellsWhy};
 
 use crate::reach::{Reached, reach};
 use crate::replay::Replayed;
-use journal_replay::{ReplayFault, State, replay};
+use journal_replay::State;
 use journal_text::JournalFault;
 use pcml_answers::{find_reason, push_reason};
 use pcml_why::why_text;
@@ -45,8 +45,8 @@ fn reason_text(
     Ok(text.into_bytes())
 }
 
-/// Why the processes stand where these commits lead them, which the state tells.
-fn why_standing(
+/// Why the processes of the script, of so many rows each, stand where these commits lead, which the state tells.
+pub fn why_standing(
     alloc: Global,
     script: &Script,
     text: &[u8],
@@ -59,25 +59,6 @@ fn why_standing(
 {
     let told = why_text(alloc, script, state, commits, text, rows)?;
     Ok(told.into_bytes())
-}
-
-/// Why the processes of the script, of so many rows each, 1 to 67107840, stand where these commits lead, a run of them.
-pub fn why_run(
-    alloc: Global,
-    script: &Script,
-    text: &[u8],
-    commits: &[Commit],
-    rows: u32,
-) -> Result<Vec<u8>, AllocError>
-    requires rows { rows ≤ 67107840 }
-    requires run { IsRun (script_of script.now).processes rows commits.now }
-    ensures { IfOk result (λ told. IsWhyOf (script_of script.now) (trees_of_script script.now) text.now rows commits.now told.items) }
-{
-    match replay(alloc, script.processes(), rows, commits) {
-        Ok(state) => why_standing(alloc, script, text, commits, &state, rows),
-        Err(ReplayFault::Memory) => Err(AllocError),
-        Err(ReplayFault::Unlawful(_)) => unreachable!(),
-    }
 }
 
 /// Where the processes of the script, of so many rows each, 1 to 67107840, stand after the journal in the

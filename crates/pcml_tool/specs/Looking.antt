@@ -2,7 +2,7 @@
 use Rattle.std.specs.Prelude.{◌≡◌, ℕ, List, Option, None, Some}
 use Rattle.std.specs.Option.{option_copied}
 use Rattle.pcml_request.specs.declared.request.Request.{Request}
-use Rattle.pcml_request.specs.declared.request.Request.TheVariants.{Chart, Check, Next, Outcomes, Play, Replay, Run, Stats, Why, WhyScript, WhyShort}
+use Rattle.pcml_request.specs.declared.request.Request.TheVariants.{Check, OfJournal, Outcomes, Play, Run, WhyScript, WhyShort}
 use Rattle.pcml_tool.specs.declared.looking.FilesRead.{FilesRead}
 
 -- the file of a script whose first fault it does not tell itself
@@ -10,20 +10,12 @@ abbrev pub script_read : Request → Option (List ℕ)
 script_read (Run asked) = Some asked.script.now
 script_read (Outcomes search) = Some search.script.now
 script_read (Check script) = Some script.now
-script_read (Replay script journal rows seasons) = Some script.now
-script_read (Why script journal rows seasons) = Some script.now
-script_read (Chart script journal rows seasons from to only form) = Some script.now
-script_read (Next script journal rows) = Some script.now
-script_read (Stats script journal rows seasons) = Some script.now
+script_read (OfJournal asked) = Some asked.script.now
 script_read asked = None
 
 -- and another one
 abbrev pub other_read : Request → Option (List ℕ)
-other_read (Replay script journal rows seasons) = Some journal.now
-other_read (Why script journal rows seasons) = Some journal.now
-other_read (Chart script journal rows seasons from to only form) = Some journal.now
-other_read (Next script journal rows) = Some journal.now
-other_read (Stats script journal rows seasons) = Some journal.now
+other_read (OfJournal asked) = Some asked.journal.now
 other_read (Play file) = Some file.now
 other_read (WhyScript file) = Some file.now
 other_read (WhyShort file) = Some file.now

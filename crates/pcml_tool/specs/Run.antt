@@ -81,7 +81,3 @@ pub record TellsFreelyOf (s : Script) (rows seasons : ℕ) (journal : List Commi
 abbrev pub TellsAsked : Script → ℕ → Option ℕ → List Commit → List End → List ℕ → List ℕ → Type 0
 TellsAsked s rows None journal ends lines rest = TellsRunOf s rows journal ends lines rest
 TellsAsked s rows (Some seasons) journal ends lines rest = TellsFreelyOf s rows seasons journal ends lines rest
-
--- the text tells a run, its journal first
-abbrev pub IsRan : Script → ℕ → List ℕ → Type 0
-IsRan s rows text = (journal : List Commit) × (ends : List End) × (lines rest : List ℕ) × TellsRunOf s rows journal ends lines rest × (text ≡ lines ++ rest)

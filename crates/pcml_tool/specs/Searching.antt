@@ -10,8 +10,8 @@ use Rattle.pcml_answers.specs.declared.finding.Finding.TheVariants.{Clear, Open,
 use Rattle.pcml_texts.specs.Searching.{IsAskedOf, MisnamesAsked}
 use Rattle.pcml_tool.specs.declared.fault.Fault.{Fault}
 use Rattle.pcml_tool.specs.declared.fault.Fault.TheVariants as faults
-use Rattle.pcml_tool.specs.declared.from_files.Verdict.{Verdict}
-use Rattle.pcml_tool.specs.declared.from_files.Verdict.TheVariants.{Denied, Done, Lacking as TheLacking}
+use Rattle.pcml_tool.specs.declared.answer.Verdict.{Verdict}
+use Rattle.pcml_tool.specs.declared.answer.Verdict.TheVariants.{Denied, Done, Lacking as TheLacking}
 
 -- what a search asks for
 abbrev pub IsAskedBy : Script → Search → Asked → Type 0

@@ -1,40 +1,27 @@
 //! What comes of the files that a request names.
 
-ghost use Rattle.std.specs.Prelude.{◌≡◌, ◌≢◌, ◌≤◌, ◌⊎◌, List, ℕ, None, IfSome, IfOk, IfErr, OnOk, length, take, drop};
-ghost use Rattle.std.specs.Option.{option_copied, option_map};
+ghost use Rattle.std.specs.Prelude.{◌≡◌, ◌≢◌, ◌≤◌, ◌⊎◌, List, ℕ, None, IfSome, IfOk, IfErr, OnOk};
+ghost use Rattle.std.specs.Option.{option_map};
 ghost use Rattle.script.specs.Lines.{trees_of_script};
 ghost use Rattle.script.specs.Scripts.{script_of};
 ghost use Rattle.script.specs.Spelling.{Spells};
 ghost use Rattle.pcml_tool.specs.declared.fault.Fault.TheVariants.{Memory, Unwritten};
 ghost use Rattle.pcml_texts.specs.Check.{IsChecked};
 ghost use Rattle.pcml_tool.specs.Play.{IsPlayed};
-ghost use Rattle.pcml_tool.specs.Command.{AnswersChart, AnswersNext, AnswersReplay, AnswersStats, AnswersWhy, AnswersWhyScript, AnswersWhyShort, AreTreesOf, IsJudged, FailsChart, FailsParse, FailsPlay, FailsRead, FailsReplay, IsToldShort, IsToldWhyNot, OfSchedule, printed};
-ghost use Rattle.pcml_tool.specs.declared.from_files.Verdict.TheVariants.{Done};
+ghost use Rattle.pcml_tool.specs.Command.{AnswersJournal, AnswersWhyScript, AnswersWhyShort, AreTreesOf, IsJudged, FailsJournal, FailsOf, FailsParse, FailsPlay, FailsRead, IsToldShort, IsToldWhyNot, OfSchedule, TellsOf};
 ghost use Rattle.pcml_files.specs.Files.{Fits};
 
+use crate::answer::{Answer, Verdict};
 use crate::fault::Fault;
 use crate::{
-    Replayed, RunText, chart_journal, check_text, next_journal, play_text, replay_text,
-    stats_journal, why_journal,
+    Replayed, chart_journal, check_text, next_journal, play_text, replay_text, stats_journal,
+    why_journal,
 };
 use pcml_files::{MOST_BYTES, Source};
-use pcml_request::Form;
+use pcml_request::{OfJournal, Question, all_rows};
 use script::{Script, parse};
 use script_mistakes::{why_not, why_short};
 use std::alloc::Global;
-
-/// What an answer says of its request.
-#[derive(Clone, Copy, Debug)]
-pub(crate) enum Verdict {
-    Done,
-    /// The journal that was to be replayed is no run.
-    Unlawful,
-    /// The text that was to be a script is none; or what was asked of a script's outcomes is not so, or not known; or
-    /// the journal of an outcome was to be kept that is not there.
-    Denied,
-    /// A process that had to end has not, or does not in some outcome.
-    Lacking,
-}
 
 /// The bytes of the schedule or the journal in a file.
 fn read_bounded<S: Source>(source: &mut S, name: &str) -> Result<Vec<u8>, Fault>
@@ -106,60 +93,79 @@ pub(crate) fn check_file<S: Source>(
 }
 
 /// What comes of a journal, with its verdict.
-fn judged(replayed: Replayed) -> (Verdict, Vec<u8>)
-    ensures { IsJudged replayed result.0 result.1.items }
+fn judged(replayed: Replayed) -> Answer
+    ensures { IsJudged replayed result.verdict result.text.items }
 {
-    match replayed {
+    let (verdict, text) = match replayed {
         Replayed::Lawful(text) => (Verdict::Done, text),
         Replayed::Unlawful(text) => (Verdict::Unlawful, text),
+    };
+    Answer {
+        verdict,
+        text,
+        advice: "",
     }
 }
 
-/// Where the journal in a file leads the script in another.
-pub(crate) fn replay_files<S: Source>(
+/// What is told of the script and the journal, by what is asked of them.
+fn told_of(
     alloc: Global,
-    source: &mut S,
-    script: &str,
-    journal: &str,
+    script: &Script,
+    text: &[u8],
+    journal: &[u8],
     rows: u32,
-) -> Result<(Verdict, Vec<u8>), Fault>
-    requires { rows ≤ 67107840 }
-    ensures done { IfOk result (λ answer. AnswersReplay (S.holds source.old) script.now journal.now rows answer.0 answer.1.items) }
-    ensures fault { IfErr result (FailsReplay (S.holds source.old) script.now journal.now) }
+    question: Question<'_>,
+) -> Result<Replayed, Fault>
+    requires rows { rows ≤ 67107840 }
+    requires trees { AreTreesOf text.now (script_of script.now) (trees_of_script script.now) }
+    ensures told { IfOk result (TellsOf question.entry (script_of script.now) text.now rows journal.now) }
+    ensures fault { IfErr result (FailsOf question.entry (script_of script.now) rows journal.now) }
 {
-    let script = read_script(alloc, source, script)?;
-    let journal = read_bounded(source, journal)?;
-    Ok(judged(replay_text(alloc, &script, journal.as_slice(), rows)?))
+    match question {
+        Question::Replay => Ok(replay_text(alloc, script, journal, rows)?),
+        Question::Why => Ok(why_journal(alloc, script, text, journal, rows)?),
+        Question::Chart(drawing) => {
+            let text = chart_journal(alloc, script, journal, rows, &drawing)?;
+            Ok(Replayed::Lawful(text))
+        }
+        Question::Next => Ok(next_journal(alloc, script, journal, rows)?),
+        Question::Stats => Ok(stats_journal(alloc, script, journal, rows)?),
+    }
 }
 
-/// Why the processes of the script in a file stand where the journal in another leads them.
-pub(crate) fn why_files<S: Source>(
+/// What is answered of the script in a file and the journal in another.
+pub(crate) fn answer_journal<S: Source>(
     alloc: Global,
+    asked: OfJournal<'_>,
     source: &mut S,
-    script: &str,
-    journal: &str,
-    rows: u32,
-) -> Result<(Verdict, Vec<u8>), Fault>
-    requires { rows ≤ 67107840 }
-    ensures done { IfOk result (λ answer. AnswersWhy (S.holds source.old) script.now journal.now rows answer.0 answer.1.items) }
-    ensures fault { IfErr result (FailsReplay (S.holds source.old) script.now journal.now) }
+) -> Result<Answer, Fault>
+    requires { asked.rows ≤ 1024 }
+    ensures done { IfOk result (λ answer. AnswersJournal (S.holds source.old) asked.entry answer.verdict answer.text.items) }
+    ensures fault { IfErr result (FailsJournal (S.holds source.old) asked.entry) }
 {
-    let (text, script) = read_source(alloc, source, script)?;
-    let journal = read_bounded(source, journal)?;
-    Ok(judged(why_journal(alloc, &script, &text, &journal, rows)?))
+    let (text, script) = read_source(alloc, source, asked.script)?;
+    let journal = read_bounded(source, asked.journal)?;
+    let rows = all_rows(asked.rows, asked.seasons);
+    let told = told_of(alloc, &script, &text, &journal, rows, asked.question)?;
+    Ok(judged(told))
 }
 
 /// What is told of why a text is no script, with the verdict.
-fn told_why_not(alloc: Global, text: Option<Vec<u8>>) -> Result<(Verdict, Vec<u8>), Fault>
-    ensures told { IfOk result (λ answer. IsToldWhyNot (option_map (λ t. t.items) text) answer.0 answer.1.items) }
+fn told_why_not(alloc: Global, text: Option<Vec<u8>>) -> Result<Answer, Fault>
+    ensures told { IfOk result (λ answer. IsToldWhyNot (option_map (λ t. t.items) text) answer.verdict answer.text.items) }
     ensures fault { IfErr result (λ fault. fault ≡ Memory) }
 {
     match text {
-        Some(text) => Ok((Verdict::Denied, text)),
-        None => Ok((
-            Verdict::Done,
-            Vec::from_slice(alloc, b"this is a script\n")?,
-        )),
+        Some(text) => Ok(Answer {
+            verdict: Verdict::Denied,
+            text,
+            advice: "",
+        }),
+        None => Ok(Answer {
+            verdict: Verdict::Done,
+            text: Vec::from_slice(alloc, b"this is a script\n")?,
+            advice: "",
+        }),
     }
 }
 
@@ -168,8 +174,8 @@ pub(crate) fn why_file<S: Source>(
     alloc: Global,
     source: &mut S,
     name: &str,
-) -> Result<(Verdict, Vec<u8>), Fault>
-    ensures done { IfOk result (λ answer. AnswersWhyScript (S.holds source.old) name.now answer.0 answer.1.items) }
+) -> Result<Answer, Fault>
+    ensures done { IfOk result (λ answer. AnswersWhyScript (S.holds source.old) name.now answer.verdict answer.text.items) }
     ensures fault { IfErr result (FailsRead (λ bytes. ⊥)) }
 {
     let bytes = source.read(name)?;
@@ -181,114 +187,40 @@ pub(crate) fn why_short_file<S: Source>(
     alloc: Global,
     source: &mut S,
     name: &str,
-) -> Result<(Verdict, Vec<u8>), Fault>
-    ensures done { IfOk result (λ answer. AnswersWhyShort (S.holds source.old) name.now answer.0 answer.1.items) }
+) -> Result<Answer, Fault>
+    ensures done { IfOk result (λ answer. AnswersWhyShort (S.holds source.old) name.now answer.verdict answer.text.items) }
     ensures fault { IfErr result (FailsRead (λ bytes. ⊥)) }
 {
     let bytes = source.read(name)?;
-    told_short(alloc, why_short(alloc, name, &bytes)?)
+    Ok(told_short(alloc, why_short(alloc, name, &bytes)?))
 }
 
 /// What is told of it, with the verdict.
-fn told_short(alloc: Global, text: Option<Vec<u8>>) -> Result<(Verdict, Vec<u8>), Fault>
-    ensures told { IfOk result (λ answer. IsToldShort (option_map (λ t. t.items) text) answer.0 answer.1.items) }
-    ensures fault { IfErr result (λ fault. fault ≡ Memory) }
+fn told_short(alloc: Global, text: Option<Vec<u8>>) -> Answer
+    ensures { IsToldShort (option_map (λ t. t.items) text) result.verdict result.text.items }
 {
-    match text {
-        Some(text) => Ok((Verdict::Denied, text)),
-        None => Ok((Verdict::Done, Vec::new(alloc))),
+    let (verdict, text) = match text {
+        Some(text) => (Verdict::Denied, text),
+        None => (Verdict::Done, Vec::new(alloc)),
+    };
+    Answer {
+        verdict,
+        text,
+        advice: "",
     }
 }
 
-/// The chart of the journal in a file, against the script in another.
-pub(crate) fn chart_files<S: Source>(
-    alloc: Global,
-    source: &mut S,
-    script: &str,
-    journal: &str,
-    rows: u32,
-    only: Option<&str>,
-    from: u32,
-    to: u32,
-    form: Form,
-) -> Result<Vec<u8>, Fault>
-    requires { rows ≤ 67107840 }
-    ensures done { IfOk result (λ text. AnswersChart (S.holds source.old) script.now journal.now rows (option_copied only.entry) from to form Done text.items) }
-    ensures fault { IfErr result (FailsChart (S.holds source.old) script.now journal.now rows (option_copied only.entry)) }
-{
-    let script = read_script(alloc, source, script)?;
-    let journal = read_bounded(source, journal)?;
-    Ok(chart_journal(
-        alloc,
-        &script,
-        journal.as_slice(),
-        rows,
-        only,
-        from,
-        to,
-        form,
-    )?)
-}
-
-/// Which commits may come next where the journal in a file leads the script in another.
-pub(crate) fn next_files<S: Source>(
-    alloc: Global,
-    source: &mut S,
-    script: &str,
-    journal: &str,
-    rows: u32,
-) -> Result<(Verdict, Vec<u8>), Fault>
-    requires { rows ≤ 67107840 }
-    ensures done { IfOk result (λ answer. AnswersNext (S.holds source.old) script.now journal.now rows answer.0 answer.1.items) }
-    ensures fault { IfErr result (FailsReplay (S.holds source.old) script.now journal.now) }
-{
-    let script = read_script(alloc, source, script)?;
-    let journal = read_bounded(source, journal)?;
-    Ok(judged(next_journal(alloc, &script, journal.as_slice(), rows)?))
-}
-
-/// How often each process and each channel of the script in a file took part in the journal in another.
-pub(crate) fn stats_files<S: Source>(
-    alloc: Global,
-    source: &mut S,
-    script: &str,
-    journal: &str,
-    rows: u32,
-) -> Result<(Verdict, Vec<u8>), Fault>
-    requires { rows ≤ 67107840 }
-    ensures done { IfOk result (λ answer. AnswersStats (S.holds source.old) script.now journal.now rows answer.0 answer.1.items) }
-    ensures fault { IfErr result (FailsReplay (S.holds source.old) script.now journal.now) }
-{
-    let script = read_script(alloc, source, script)?;
-    let journal = read_bounded(source, journal)?;
-    Ok(judged(stats_journal(alloc, &script, journal.as_slice(), rows)?))
-}
-
-/// Keeps the journal of a run in a file, where one is named, and gives what is printed.
+/// Keeps the lines of a journal in a file, where one is named.
 pub(crate) fn keep_journal<S: Source>(
-    alloc: Global,
     source: &mut S,
-    ran: RunText,
+    lines: &[u8],
     journal: Option<&str>,
-    quiet: bool,
-) -> Result<Vec<u8>, Fault>
-    requires { ran.journal ≤ length ran.text.items }
-    ensures kept { OnOk result (IfSome journal.entry (λ name. S.holds source.new name.now (take ran.journal ran.text.items))) }
-    ensures printed { IfOk result (λ text. text.items ≡ printed quiet (take ran.journal ran.text.items) (drop ran.journal ran.text.items)) }
+) -> Result<(), Fault>
+    ensures kept { OnOk result (IfSome journal.entry (λ name. S.holds source.new name.now lines.now)) }
     ensures fault { IfErr result (λ fault. (fault ≡ Memory) ⊎ ((fault ≡ Unwritten) × (journal.entry ≢ None))) }
 {
-    let RunText {
-        text,
-        journal: end,
-        ..
-    } = ran;
-    let rest = if quiet {
-        Some(Vec::from_slice(alloc, &text[end..])?)
-    } else {
-        None
-    };
     if let Some(name) = journal {
-        source.store(name, &text[..end])?;
+        source.store(name, lines)?;
     }
-    Ok(rest.unwrap_or(text))
+    Ok(())
 }

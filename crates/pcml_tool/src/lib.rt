@@ -4,6 +4,7 @@
 //! `program` and `from_files` know.
 #![tactic(auto)]
 
+mod answer;
 mod explain;
 mod fault;
 mod from_files;
@@ -21,12 +22,12 @@ pub use crate::looking::{FilesRead, files_read, first_fault};
 pub use crate::meeting::{MeetFault, meet_text};
 pub use crate::play::{PlayFault, play_laws, play_text};
 pub use crate::program::{BAD_WORDS, command, tell};
-pub use crate::run::{RunText, run_parts, run_seasons_parts, run_text};
+pub use crate::run::{RunText, run_parts, run_seasons_parts};
 pub use crate::version::version_text;
 pub use outcomes::{Unwatched, Watch};
 pub use pcml_files::{Source, SourceFault, SystemFiles};
 pub use pcml_request::Request;
 pub use pcml_texts::{
     ChartFault, Replayed, chart_journal, check_text, next_journal, replay_laws, replay_text,
-    stats_journal, why_journal, why_run,
+    stats_journal, why_journal, why_standing,
 };

@@ -5,12 +5,13 @@ ghost use Rattle.pcml_request.specs.declared.request.Request.{Request};
 ghost use Rattle.pcml_request.specs.Requests.{CanBeAnswered};
 ghost use Rattle.pcml_tool.specs.Command.{AnswersWhyScript};
 ghost use Rattle.pcml_tool.specs.Looking.{Are, AreReadBy};
-ghost use Rattle.pcml_tool.specs.declared.from_files.Verdict.TheVariants.{Denied};
+ghost use Rattle.pcml_tool.specs.declared.answer.Verdict.TheVariants.{Denied};
 
+use crate::answer::{Answer, Verdict};
 use crate::fault::Fault;
-use crate::from_files::{Verdict, why_file};
+use crate::from_files::why_file;
 use pcml_files::Source;
-use pcml_request::{Request, Running, Search, read_words};
+use pcml_request::{OfJournal, Request, Running, Search, read_words};
 use std::alloc::Global;
 
 /// The files that a request reads: that of a script whose first fault it does not tell itself, and another one.
@@ -41,31 +42,13 @@ fn files_of(asked: Request<'_>) -> FilesRead<'_>
         Request::Run(Running { script, .. })
         | Request::Outcomes(Search { script, .. })
         | Request::Check(script) => (Some(script), None),
-        Request::Replay {
-            script,
-            journal,
-            ..
-        }
-        | Request::Why {
-            script,
-            journal,
-            ..
-        }
-        | Request::Chart {
-            script,
-            journal,
-            ..
-        }
-        | Request::Next {
-            script,
-            journal,
-            ..
-        }
-        | Request::Stats {
-            script,
-            journal,
-            ..
-        } => (Some(script), Some(journal)),
+        Request::OfJournal(
+            OfJournal {
+                script,
+                journal,
+                ..
+            },
+        ) => (Some(script), Some(journal)),
         Request::Play(file) | Request::WhyScript(file) | Request::WhyShort(file) => {
             (None, Some(file))
         }
@@ -83,7 +66,11 @@ pub fn first_fault<S: Source>(
     ensures { IfOk result (λ told. IfSome told (λ text. AnswersWhyScript (S.holds source.old) name.now Denied text.items)) }
 {
     match why_file(alloc, source, name)? {
-        (Verdict::Denied, text) => Ok(Some(text)),
+        Answer {
+            verdict: Verdict::Denied,
+            text,
+            ..
+        } => Ok(Some(text)),
         _ => Ok(None),
     }
 }

@@ -1,21 +1,23 @@
 //! What `run` prints.
 
-ghost use Rattle.std.specs.Prelude.{◌≡◌, ◌≢◌, ◌↔◌, ◌≤◌, ◌*◌, Err, IfErr, IfOk, length, map, take, drop};
+ghost use Rattle.std.specs.Prelude.{◌≡◌, ◌≢◌, ◌↔◌, ◌≤◌, ◌*◌, Err, IfErr, IfOk, length, map};
 ghost use Rattle.std.specs.List.{AllByRecursion};
 ghost use Rattle.std.specs.String.{string_bytes};
+ghost use Rattle.script.specs.Lines.{trees_of_script};
 ghost use Rattle.script.specs.Scripts.{script_of};
-ghost use Rattle.journal_replay.specs.Runs.{IsRun};
+ghost use Rattle.journal_replay.specs.Lines.{trees_in};
+ghost use Rattle.journal_replay.specs.Replays.{StandsAfter};
 ghost use Rattle.journal_text.specs.Journals.{HasLine};
 ghost use Rattle.journal_text.specs.Names.{names_of, named};
 ghost use Rattle.runtime.specs.Limits.{AreRows, AreSeasons, AreWorkers};
 ghost use Rattle.runtime.specs.Played.{NeedsSeasons};
 ghost use Rattle.runtime_run.specs.declared.fault.RunFault.TheVariants.{Workers, Rows};
 ghost use Rattle.runtime.specs.declared.seasons.SeasonFault.TheVariants as faults;
-ghost use Rattle.pcml_tool.specs.Run.{tail_line, IsRan, TellsFreelyOf, TellsRecord, TellsRunOf};
+ghost use Rattle.pcml_tool.specs.Run.{tail_line, TellsFreelyOf, TellsRecord, TellsRunOf};
 ghost use Rattle.pcml_answers.specs.Standings.{TellsStandings};
 
 use journal::Record;
-use journal_replay::End;
+use journal_replay::{End, State};
 use journal_text::write_journal;
 use pcml_answers::standing_lines;
 use protocol_values::Commit;
@@ -31,41 +33,44 @@ fn tail_line(alloc: Global, commits: usize, tail: usize) -> Result<String, Alloc
     format!(in alloc; "commits {commits} tail {tail}\n")
 }
 
-/// What a run prints, its journal's commits, and how each process ended.
-#[derive(Debug, Drop)]
+/// What a run prints, in two parts, and what it was.
+#[derive(Drop)]
 pub struct RunText {
-    /// A line for each commit of the journal, then a line for each process, and the counts.
-    pub text: Vec<u8>,
-    /// How many bytes the lines of the journal take.
-    pub journal: usize,
+    /// A line for each commit of the journal.
+    pub lines: Vec<u8>,
+    /// A line for each process, and the counts.
+    pub rest: Vec<u8>,
+    /// The journal's commits.
     pub commits: Vec<Commit>,
+    /// Where they lead.
+    pub state: State,
+    /// How each process ended.
     pub ends: Vec<End>,
 }
 
-/// The journal, a line for each process, and the counts.
+/// The journal, and behind it a line for each process and the counts.
 fn record_text(alloc: Global, script: &Script, ran: Record) -> Result<RunText, AllocError>
     requires lines { AllByRecursion (HasLine (names_of (script_of script.now))) ran.journal.items }
     requires ends { length ran.ends.items ≡ length (script_of script.now).processes }
     requires outputs { length ran.outputs.items ≡ length (script_of script.now).processes }
-    ensures tells { IfOk result (λ t. TellsRecord (script_of script.now) ran (take t.journal t.text.items) (drop t.journal t.text.items)) }
-    ensures within { IfOk result (λ t. t.journal ≤ length t.text.items) }
-    ensures same { IfOk result (λ t. (t.commits.items ≡ ran.journal.items) × (t.ends.items ≡ ran.ends.items)) }
+    ensures tells { IfOk result (λ t. TellsRecord (script_of script.now) ran t.lines.items t.rest.items) }
+    ensures same { IfOk result (λ t. (t.commits.items ≡ ran.journal.items) × (t.ends.items ≡ ran.ends.items) × (t.state ≡ ran.state)) }
 {
-    let mut text = write_journal(alloc, script, ran.journal.as_slice())?;
-    let journal = text.len();
-    let lines = standing_lines(alloc, script, ran.ends.as_slice(), ran.outputs.as_slice())?;
+    let lines = write_journal(alloc, script, ran.journal.as_slice())?;
+    let mut rest = standing_lines(alloc, script, ran.ends.as_slice(), ran.outputs.as_slice())?;
     let last = tail_line(alloc, ran.journal.len(), ran.tail)?;
-    text.extend_from_slice(lines.as_bytes())?;
-    text.extend_from_slice(last.as_bytes())?;
+    rest.push_str(&last)?;
     let Record {
         journal: commits,
+        state,
         ends,
         ..
     } = ran;
     Ok(RunText {
-        text,
-        journal,
+        lines,
+        rest: rest.into_bytes(),
         commits,
+        state,
         ends,
     })
 }
@@ -79,10 +84,9 @@ pub fn run_parts<R: Threads + Wait + Sync>(
     workers: u8,
     rows: u16,
 ) -> Result<RunText, RunFault>
-    ensures ran { IfOk result (λ t. TellsRunOf (script_of script.now) rows t.commits.items t.ends.items (take t.journal t.text.items) (drop t.journal t.text.items)) }
-    ensures within { IfOk result (λ t. t.journal ≤ length t.text.items) }
+    ensures ran { IfOk result (λ t. TellsRunOf (script_of script.now) rows t.commits.items t.ends.items t.lines.items t.rest.items) }
     ensures ends { IfOk result (λ t. length t.ends.items ≡ length (script_of script.now).processes) }
-    ensures run { IfOk result (λ t. IsRun (script_of script.now).processes rows t.commits.items) }
+    ensures leads { IfOk result (λ t. StandsAfter (script_of script.now).processes rows t.commits.items t.state × (trees_in t.state ≡ trees_of_script script.now)) }
     ensures workers { (result ≡ Err Workers) ↔ (¬ AreWorkers workers) }
     ensures rows { (result ≡ Err Rows) ↔ (AreWorkers workers × (¬ AreRows rows)) }
 {
@@ -102,10 +106,9 @@ pub fn run_seasons_parts<R: Threads + Wait + Sync>(
     rows: u16,
     seasons: u16,
 ) -> Result<RunText, SeasonFault>
-    ensures ran { IfOk result (λ t. TellsFreelyOf (script_of script.now) rows seasons t.commits.items t.ends.items (take t.journal t.text.items) (drop t.journal t.text.items)) }
-    ensures within { IfOk result (λ t. t.journal ≤ length t.text.items) }
+    ensures ran { IfOk result (λ t. TellsFreelyOf (script_of script.now) rows seasons t.commits.items t.ends.items t.lines.items t.rest.items) }
     ensures ends { IfOk result (λ t. length t.ends.items ≡ length (script_of script.now).processes) }
-    ensures run { IfOk result (λ t. IsRun (script_of script.now).processes (seasons * rows) t.commits.items) }
+    ensures leads { IfOk result (λ t. StandsAfter (script_of script.now).processes (seasons * rows) t.commits.items t.state × (trees_in t.state ≡ trees_of_script script.now)) }
     ensures workers { (result ≡ Err faults.Workers) ↔ (¬ AreWorkers workers) }
     ensures rows { (result ≡ Err faults.Rows) ↔ (AreWorkers workers × (¬ AreRows rows)) }
     ensures seasons { (result ≡ Err faults.SeasonCount) ↔ (AreWorkers workers × AreRows rows × (¬ AreSeasons seasons)) }
@@ -117,21 +120,4 @@ pub fn run_seasons_parts<R: Threads + Wait + Sync>(
         Ok(text) => Ok(text),
         Err(_) => Err(SeasonFault::Memory),
     }
-}
-
-/// What comes of running the script's processes on so many workers, in so many rows each. It waits for its
-/// workers.
-pub fn run_text<R: Threads + Wait + Sync>(
-    rt: &R,
-    alloc: Global,
-    script: &Script,
-    workers: u8,
-    rows: u16,
-) -> Result<Vec<u8>, RunFault>
-    ensures ran { IfOk result (λ text. IsRan (script_of script.now) rows text.items) }
-    ensures workers { (result ≡ Err Workers) ↔ (¬ AreWorkers workers) }
-    ensures rows { (result ≡ Err Rows) ↔ (AreWorkers workers × (¬ AreRows rows)) }
-{
-    let RunText { text, .. } = run_parts(rt, alloc, script, workers, rows)?;
-    Ok(text)
 }

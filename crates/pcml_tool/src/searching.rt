@@ -8,8 +8,8 @@ ghost use Rattle.pcml_tool.specs.declared.fault.Fault.TheVariants.{Memory, Unwri
 ghost use Rattle.pcml_tool.specs.Command.{KeepsAsked};
 ghost use Rattle.pcml_tool.specs.Searching.{FailsAsked, IsAskedBy, verdict_of};
 
+use crate::answer::{Answer, Verdict};
 use crate::fault::Fault;
-use crate::from_files::Verdict;
 use outcomes::Asked;
 use pcml_answers::{Finding, NamesFault, OutcomesText};
 use pcml_files::Source;
@@ -18,7 +18,7 @@ use script::Script;
 use std::alloc::Global;
 
 /// What is told behind an answer for which not all was seen.
-pub(crate) const CUT: &str =
+const CUT: &str =
     "cut: not all configurations were seen. A larger --limit (up to 4194304) sees more; fewer --rows or messages make fewer. --need and --only tell less of what was seen.\n";
 
 /// What a search asks for. Of the names of the processes that have to end, and then of those that are named alone, the
@@ -48,27 +48,31 @@ fn verdict_of(finding: Finding, is_asked: bool, is_there: bool) -> Verdict
 }
 
 /// Keeps the journal of the outcome that is asked for in a file, where one is named and there is such an outcome, and
-/// gives what is printed, with the verdict.
+/// gives what is answered.
 pub(crate) fn keep_outcome<S: Source>(
     source: &mut S,
     listed: OutcomesText,
     of: Option<u32>,
     journal: Option<&str>,
-) -> Result<(Verdict, Vec<u8>), Fault>
+) -> Result<Answer, Fault>
     ensures kept { OnOk result (KeepsAsked (S.holds source.old) (S.holds source.new) (option_copied journal.entry) (bytes_of listed.journal)) }
-    ensures verdict { IfOk result (λ answer. answer.0 ≡ verdict_of listed.finding (is_some of) (is_some (bytes_of listed.journal))) }
-    ensures printed { IfOk result (λ answer. answer.1.items ≡ listed.text.items) }
+    ensures verdict { IfOk result (λ answer. answer.verdict ≡ verdict_of listed.finding (is_some of) (is_some (bytes_of listed.journal))) }
+    ensures printed { IfOk result (λ answer. answer.text.items ≡ listed.text.items) }
     ensures fault { IfErr result (λ fault. (fault ≡ Memory) ⊎ ((fault ≡ Unwritten) × (journal.entry ≢ None))) }
 {
     let OutcomesText {
         text,
         journal: lines,
         finding,
-        ..
+        is_cut,
     } = listed;
     let is_there = lines.is_some();
     if let (Some(lines), Some(name)) = (lines, journal) {
         source.store(name, &lines)?;
     }
-    Ok((verdict_of(finding, of.is_some(), is_there), text))
+    Ok(Answer {
+        verdict: verdict_of(finding, of.is_some(), is_there),
+        text,
+        advice: if is_cut { CUT } else { "" },
+    })
 }

@@ -1,7 +1,7 @@
 use Rattle.std.proofs.Common.{[], length, inl, inr, ⊎_elim, refl, sym, subst}
 use Rattle.std.specs.Io.KnownBytes.{Appends}
 use Rattle.pcml_request.specs.declared.request.Request.TheVariants.{Meet}
-use Rattle.pcml_tool.specs.declared.from_files.Verdict.TheVariants.{Done}
+use Rattle.pcml_tool.specs.declared.answer.Verdict.TheVariants.{Done}
 use Rattle.pcml_files.proofs.Emitting.{all_taken, nothing_taken}
 use Rattle.pcml_tool.proofs.program.command.Goals as goal
 
