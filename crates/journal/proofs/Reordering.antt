@@ -12,7 +12,6 @@ use Rattle.journal_replay.specs.Runs.{Config, CountsOf, IsGreatest, IsRun, Start
 use Rattle.journal_replay.specs.Standing.{FiresOf, KnowsNack, Stands, StandsIn, StrandStands}
 
 module _ (earlier journal : List Commit) (moved : IsPermutation earlier journal) where
-
   still : (d : Commit) → Contains journal d → Contains earlier d
   still d = Contains-permutation journal earlier d (IsPermutation-sym earlier journal moved)
 

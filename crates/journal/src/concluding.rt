@@ -6,7 +6,7 @@ ghost use Rattle.journal_order.specs.Ledgers.{IsLedgerOf, fired_as};
 ghost use Rattle.journal_replay.specs.Lines.{trees_in};
 ghost use Rattle.journal_replay.specs.Runs.{IsRun};
 ghost use Rattle.protocol.specs.Openings.{opening_of};
-ghost use Rattle.protocol_values.specs.Commits.{IsInOrder};
+ghost use Rattle.protocol_values.specs.Commits.{IsInOrder, most_rows};
 ghost use Rattle.script_tree.specs.Processes.{proc_of, tree_of};
 ghost use Rattle.script_tree.specs.Spawning.{IsPlaced};
 ghost use Rattle.journal.specs.Concluding.{AreGone, AreStanding, EachKnownBy, RunTrees, fired_in, last_in};
@@ -37,7 +37,7 @@ pub fn conclude(
     machines: Vec<Option<Machine>>,
 ) -> Result<Record, AllocError>
     requires few { length processes.now ≤ 64 }
-    requires rows { rows ≤ 67107840 }
+    requires rows { rows ≤ most_rows }
     requires placed { IsPlaced (map proc_of processes.now) }
     requires of { IsLedgerOf (map proc_of processes.now) ledger.now × (ledger.now.rows ≤ rows) }
     requires machines { AreStanding (map proc_of processes.now) ledger.now machines.items }
@@ -60,7 +60,7 @@ pub fn conclude_run(
     machines: Vec<Option<Machine>>,
 ) -> Result<Record, AllocError>
     requires few { length processes.now ≤ 64 }
-    requires rows { rows ≤ 67107840 }
+    requires rows { rows ≤ most_rows }
     requires placed { IsPlaced (map proc_of processes.now) }
     requires run { IsRun (map proc_of processes.now) rows commits.items }
     requires told { TellsRun (map proc_of processes.now) commits.items (opening_of opening.now) }
@@ -80,7 +80,7 @@ pub fn retrace_run(
     commits: Vec<Commit>,
 ) -> Result<Record, AllocError>
     requires few { length processes.now ≤ 64 }
-    requires rows { rows ≤ 67107840 }
+    requires rows { rows ≤ most_rows }
     requires placed { IsPlaced (map proc_of processes.now) }
     requires run { IsRun (map proc_of processes.now) rows commits.items }
     ensures completes { IfOk result (CompletesRun (map proc_of processes.now) rows commits.items) }
@@ -109,7 +109,7 @@ fn conclude_ordered(
     machines: Vec<Option<Machine>>,
 ) -> Result<Record, AllocError>
     requires few { length processes.now ≤ 64 }
-    requires rows { rows ≤ 67107840 }
+    requires rows { rows ≤ most_rows }
     requires placed { IsPlaced (map proc_of processes.now) }
     requires in_order { IsInOrder commits.items }
     requires run { IsRun (map proc_of processes.now) rows commits.items }

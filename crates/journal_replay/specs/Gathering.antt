@@ -10,7 +10,7 @@ use Rattle.protocol_values.specs.declared.Commit.{Commit}
 use Rattle.protocol_values.specs.declared.Commit.TheVariants.{Pair, Alone}
 use Rattle.protocol_values.specs.declared.Row.{Row}
 use Rattle.protocol_values.specs.declared.RowResult.{RowResult}
-use Rattle.protocol_values.specs.Commits.{gives}
+use Rattle.protocol_values.specs.Commits.{gives, most_rows}
 use Rattle.journal_replay.specs.declared.strand.Known.{Known}
 use Rattle.journal_replay.specs.declared.strand.Strand.{Strand}
 use Rattle.journal_replay.specs.declared.threads.Threads.{Threads}
@@ -64,7 +64,7 @@ pub record Gathers (process : Proc) (from : Option ℕ) (number : ℕ) (k : Know
 -- so of each thread, in so many rows
 pub record AreGathered (ps : List Proc) (rows : ℕ) (known : List Known) (s : Threads) : Type 0 where
   pub rows_are : s.rows ≡ rows
-  pub low : rows ≤ 67107840
+  pub low : rows ≤ most_rows
   pub later : s.later ≡ false → (t : ℕ) → t < length ps → spawner ps t ≡ None
   pub count : length s.strands.items ≡ length ps
   pub each : (t : ℕ) (x : Strand) → slice_get s.strands.items t ≡ Some x →

@@ -7,12 +7,13 @@ use Rattle.journal_replay.specs.declared.threads.Threads.{Threads}
 use Rattle.journal_replay.specs.Runs.{IsRun}
 use Rattle.journal_replay.specs.Searching.{Bounded}
 use Rattle.journal_replay.specs.Standing.{Stands}
+use Rattle.protocol_values.specs.Commits.{most_rows}
 
 -- the commits are a run of the processes in so many rows each, and the threads stand where they lead
 pub record AreAfter (ps : List Proc) (rows : ℕ) (journal : List Commit) (s : Threads) : Type 0 where
   pub rows_are : s.rows ≡ rows
   pub few : length ps ≤ 64
-  pub low : rows ≤ 67107840
+  pub low : rows ≤ most_rows
   pub placed : IsPlaced ps
   pub later : s.later ≡ false → (t : ℕ) → t < length ps → spawner ps t ≡ None
   pub run : IsRun ps rows journal

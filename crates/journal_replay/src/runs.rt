@@ -1,6 +1,7 @@
 //! Runs, replayed commit by commit and led on to their end.
 
 ghost use Rattle.std.specs.Prelude.{◌≡◌, ◌≤◌, IfOk, length, map, MatchResult};
+ghost use Rattle.protocol_values.specs.Commits.{most_rows};
 ghost use Rattle.script_tree.specs.Processes.{proc_of, tree_of};
 ghost use Rattle.script_tree.specs.Spawning.{IsPlaced};
 ghost use Rattle.journal_replay.specs.Replays.{Refuses, Settles, StandsAfter};
@@ -15,7 +16,7 @@ use script_tree::Proc;
 use std::alloc::{AllocError, Global};
 
 /// Adds the commits one after another, from the beginning of the processes, each of which makes at
-/// most `rows` syncs, 1 to 67107840. Who spawns a process stands behind it, as in a script.
+/// most `rows` syncs, 1 to `MOST_ROWS`. Who spawns a process stands behind it, as in a script.
 pub fn replay(
     alloc: Global,
     processes: &[Proc],
@@ -23,7 +24,7 @@ pub fn replay(
     commits: &[Commit],
 ) -> Result<State, ReplayFault>
     requires few { length processes.now ≤ 64 }
-    requires rows { rows ≤ 67107840 }
+    requires rows { rows ≤ most_rows }
     requires placed { IsPlaced (map proc_of processes.now) }
     ensures stands { MatchResult result (StandsAfter (map proc_of processes.now) rows commits.now) (Refuses (map proc_of processes.now) rows commits.now) }
     ensures trees { IfOk result (λ state. trees_in state ≡ map tree_of processes.now) }
@@ -47,7 +48,7 @@ pub fn restamp(
     commits: &[Commit],
 ) -> Result<(State, Vec<Commit>), AllocError>
     requires few { length processes.now ≤ 64 }
-    requires rows { rows ≤ 67107840 }
+    requires rows { rows ≤ most_rows }
     requires placed { IsPlaced (map proc_of processes.now) }
     requires legal { AreLegal (map proc_of processes.now) rows commits.now }
     ensures stands { IfOk result (λ run. StandsAfter (map proc_of processes.now) rows run.1.items run.0) }

@@ -1,6 +1,7 @@
 //! The text of all that a script can come to.
 
 ghost use Rattle.std.specs.Prelude.{◌≡◌, ◌≤◌, IfOk, length};
+ghost use Rattle.protocol_values.specs.Commits.{most_rows};
 ghost use Rattle.script.specs.Scripts.{script_of};
 ghost use Rattle.pcml_answers.specs.Told.{AreOf, ClearAlwaysEnds, ClearNeverWaits, HaveLines, IsListed, IsNumber, StuckIsLeft, TellsOutcomes};
 
@@ -52,7 +53,7 @@ fn found_text(
     })
 }
 
-/// All that the script's processes can come to, of so many rows each, 1 to 67107840, as far as at most `limit`
+/// All that the script's processes can come to, of so many rows each, 1 to `MOST_ROWS`, as far as at most `limit`
 /// configurations show it, with the journal that leads to the outcome of the number `of`, from 1, or else to the
 /// first that is told. What makes an outcome, and which are told, is `asked`, whose marks are one for each process.
 pub fn outcomes_text<W: Watch>(
@@ -64,7 +65,7 @@ pub fn outcomes_text<W: Watch>(
     of: Option<u32>,
     watch: &mut W,
 ) -> Result<OutcomesText, AllocError>
-    requires rows { rows ≤ 67107840 }
+    requires rows { rows ≤ most_rows }
     requires limit { 1 ≤ limit }
     requires marks { length asked.now.named.items ≡ length (script_of script.now).processes }
     requires number { IsNumber of }

@@ -1,6 +1,7 @@
 //! The reason for which commits are no run.
 
 ghost use Rattle.std.specs.Prelude.{◌≡◌, ◌<◌, ◌≤◌, ℕ, IfOk, Some, length, map, slice_get};
+ghost use Rattle.protocol_values.specs.Commits.{most_rows};
 ghost use Rattle.protocol_values.specs.declared.Commit.{Commit as Made};
 ghost use Rattle.script_tree.specs.Processes.{proc_of};
 ghost use Rattle.script_tree.specs.Spawning.{IsPlaced};
@@ -75,7 +76,7 @@ fn legal_reason(state: &State, earlier: &[Commit], commit: &Commit) -> Option<Re
 }
 
 /// Why the commit with this number may not come next: the first so many are a run of the processes, of so many rows
-/// each, 1 to 67107840, and with it they are none.
+/// each, 1 to `MOST_ROWS`, and with it they are none.
 pub fn find_reason(
     alloc: Global,
     processes: &[Proc],
@@ -84,7 +85,7 @@ pub fn find_reason(
     index: usize,
 ) -> Result<Reason, AllocError>
     requires few { length processes.now ≤ 64 }
-    requires rows { rows ≤ 67107840 }
+    requires rows { rows ≤ most_rows }
     requires placed { IsPlaced (map proc_of processes.now) }
     requires threads { (c : Made) (t : ℕ) → slice_get commits.now index ≡ Some c → HasThread c t → t < length processes.now }
     requires breaks { BreaksOffAt (map proc_of processes.now) rows commits.now index }

@@ -17,10 +17,11 @@ use Rattle.pcml_check_c.specs.declared.told.Code.TheVariants.{Done, Open, Unlawf
 use Rattle.pcml_check_c.specs.declared.told.Told.{Told}
 use Rattle.pcml_check_c.specs.declared.refusal.Refusal.{Refusal}
 use Rattle.pcml_check_c.specs.declared.refusal.Refusal.TheVariants as refusals
+use Rattle.protocol_values.specs.Commits.{most_rows}
 
 -- as many rows as a process can have, in all seasons
 abbrev pub AreRows : ℕ → Type 0
-AreRows rows = (1 ≤ rows) × (rows ≤ 67107840)
+AreRows rows = (1 ≤ rows) × (rows ≤ most_rows)
 
 -- a run that no commit may follow; one that some commit may; or the first line with which it is none
 abbrev pub Judges : Script → ℕ → List ℕ → Code → ℕ → List ℕ → Type 0

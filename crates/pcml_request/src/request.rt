@@ -1,6 +1,7 @@
 //! What can be asked for.
 
 ghost use Rattle.std.specs.Prelude.{◌≡◌, ◌≤◌};
+ghost use Rattle.protocol_values.specs.Commits.{most_rows};
 ghost use Rattle.pcml_request.specs.Requests.{all_rows};
 
 use pcml_explain::Topic;
@@ -119,7 +120,7 @@ pub enum Request<'a> {
 pub fn all_rows(rows: u16, seasons: Option<u16>) -> u32
     requires { rows ≤ 1024 }
     ensures value { result ≡ all_rows rows seasons }
-    ensures few { result ≤ 67107840 }
+    ensures few { result ≤ most_rows }
 {
     match seasons {
         Some(seasons) => u32::from(seasons) * u32::from(rows),

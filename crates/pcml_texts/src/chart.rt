@@ -1,6 +1,7 @@
 //! What `chart` prints.
 
 ghost use Rattle.std.specs.Prelude.{◌≡◌, ◌≤◌, IfOk, IfErr, length};
+ghost use Rattle.protocol_values.specs.Commits.{most_rows};
 ghost use Rattle.std.specs.Option.{option_copied};
 ghost use Rattle.script.specs.Scripts.{script_of};
 ghost use Rattle.journal_replay.specs.Replays.{thread_count};
@@ -79,7 +80,7 @@ fn drawn(
     }
 }
 
-/// The chart of the journal in the bytes, of processes of so many rows each, 1 to 67107840, in a form: its commits
+/// The chart of the journal in the bytes, of processes of so many rows each, 1 to `MOST_ROWS`, in a form: its commits
 /// with a stamp from `from` to `to`, or to an earlier one where they are more than 1,250. Where names are given, with
 /// commas between, only their processes have columns of their own.
 pub fn chart_journal(
@@ -89,7 +90,7 @@ pub fn chart_journal(
     rows: u32,
     drawing: &Drawing<'_>,
 ) -> Result<Vec<u8>, ChartFault>
-    requires { rows ≤ 67107840 }
+    requires { rows ≤ most_rows }
     ensures charted { IfOk result (λ text. IsCharted (script_of script.now) rows journal.now (option_copied drawing.now.only) drawing.now.from drawing.now.to drawing.now.form text.items) }
     ensures fault { IfErr result (ExplainsChart (script_of script.now) rows journal.now (option_copied drawing.now.only)) }
 {

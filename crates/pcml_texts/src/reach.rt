@@ -1,6 +1,7 @@
 //! A journal read and replayed, for each request that asks where one leads.
 
 ghost use Rattle.std.specs.Prelude.{◌≡◌, ◌≤◌, IfOk, IfErr};
+ghost use Rattle.protocol_values.specs.Commits.{most_rows};
 ghost use Rattle.std.specs.String.{string_bytes};
 ghost use Rattle.script.specs.Lines.{trees_of_script};
 ghost use Rattle.script.specs.Scripts.{script_of};
@@ -34,14 +35,14 @@ fn unlawful_line(alloc: Global, line: usize) -> Result<String, AllocError>
     format!(in alloc; "unlawful at line {line}\n")
 }
 
-/// Where the journal in the bytes leads the script's processes, of so many rows each, 1 to 67107840.
+/// Where the journal in the bytes leads the script's processes, of so many rows each, 1 to `MOST_ROWS`.
 pub(crate) fn reach(
     alloc: Global,
     script: &Script,
     journal: &[u8],
     rows: u32,
 ) -> Result<Reached, JournalFault>
-    requires { rows ≤ 67107840 }
+    requires { rows ≤ most_rows }
     ensures reached { IfOk result (Reaches (script_of script.now) rows journal.now) }
     ensures trees { IfOk result (RunsTrees (trees_of_script script.now)) }
     ensures fault { IfErr result (Explains (script_of script.now) journal.now) }

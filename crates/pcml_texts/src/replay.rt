@@ -1,6 +1,7 @@
 //! What `replay` prints.
 
 ghost use Rattle.std.specs.Prelude.{◌≡◌, ◌≤◌, IfOk, IfErr, OnOk, length};
+ghost use Rattle.protocol_values.specs.Commits.{most_rows};
 ghost use Rattle.std.specs.String.{string_bytes};
 ghost use Rattle.script.specs.Scripts.{script_of};
 ghost use Rattle.journal_text.specs.Answers.{Explains};
@@ -82,14 +83,14 @@ fn state_text(
     Ok(text.into_bytes())
 }
 
-/// Where the journal in the bytes leads the script's processes, of so many rows each, 1 to 67107840.
+/// Where the journal in the bytes leads the script's processes, of so many rows each, 1 to `MOST_ROWS`.
 pub fn judge_journal(
     alloc: Global,
     script: &Script,
     journal: &[u8],
     rows: u32,
 ) -> Result<Judged, JournalFault>
-    requires { rows ≤ 67107840 }
+    requires { rows ≤ most_rows }
     ensures judged { IfOk result (TellsJudged (script_of script.now) rows journal.now) }
     ensures fault { IfErr result (Explains (script_of script.now) journal.now) }
 {
@@ -114,7 +115,7 @@ pub fn replay_text(
     journal: &[u8],
     rows: u32,
 ) -> Result<Replayed, JournalFault>
-    requires { rows ≤ 67107840 }
+    requires { rows ≤ most_rows }
     ensures replayed { IfOk result (TellsReplayed (script_of script.now) rows journal.now) }
     ensures fault { IfErr result (Explains (script_of script.now) journal.now) }
 {

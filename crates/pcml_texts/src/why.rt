@@ -1,6 +1,7 @@
 //! What `why` prints.
 
 ghost use Rattle.std.specs.Prelude.{◌≡◌, ◌+◌, ◌≤◌, IfOk, IfErr};
+ghost use Rattle.protocol_values.specs.Commits.{most_rows};
 ghost use Rattle.std.specs.List.{AllByRecursion};
 ghost use Rattle.std.specs.String.{string_bytes};
 ghost use Rattle.script.specs.Lines.{trees_of_script};
@@ -33,7 +34,7 @@ fn reason_text(
     line: String,
     rows: u32,
 ) -> Result<Vec<u8>, AllocError>
-    requires rows { rows ≤ 67107840 }
+    requires rows { rows ≤ most_rows }
     requires lines { AllByRecursion (HasLine (names_of (script_of script.now))) commits.now }
     requires breaks { BreaksOffAt (script_of script.now).processes rows commits.now index }
     requires line { string_bytes line ≡ unlawful_line (index + 1) }
@@ -61,7 +62,7 @@ pub fn why_standing(
     Ok(told.into_bytes())
 }
 
-/// Where the processes of the script, of so many rows each, 1 to 67107840, stand after the journal in the
+/// Where the processes of the script, of so many rows each, 1 to `MOST_ROWS`, stand after the journal in the
 /// bytes, at which lines of the script's text, and with whom each could go on; or with which line it is no run, and why.
 pub fn why_journal(
     alloc: Global,
@@ -70,7 +71,7 @@ pub fn why_journal(
     journal: &[u8],
     rows: u32,
 ) -> Result<Replayed, JournalFault>
-    requires { rows ≤ 67107840 }
+    requires { rows ≤ most_rows }
     ensures told { IfOk result (TellsWhy (script_of script.now) (trees_of_script script.now) text.now rows journal.now) }
     ensures fault { IfErr result (Explains (script_of script.now) journal.now) }
 {

@@ -4,8 +4,12 @@ use Rattle.std.specs.Io.KnownBytes.{Appends}
 use Rattle.std.specs.Global.{Vec}
 use Rattle.std.specs.Option.{option_copied, option_map}
 use Rattle.pcml_request.specs.declared.request.Request.{Request}
-use Rattle.pcml_request.specs.declared.request.Request.TheVariants.{Meet, Next, Outcomes, Play, Check, Chart, Explain, Replay, Run, Stats, Version, Why, WhyScript, WhyShort}
-use Rattle.pcml_request.specs.declared.request.Form.{Form}
+use Rattle.pcml_request.specs.declared.request.Request.TheVariants.{Meet, Outcomes, Play, Check, Explain, Run, Version, WhyScript, WhyShort}
+use Rattle.pcml_request.specs.declared.request.Request.TheVariants as request
+use Rattle.pcml_request.specs.declared.request.Drawing.{Drawing}
+use Rattle.pcml_request.specs.declared.request.OfJournal.{OfJournal}
+use Rattle.pcml_request.specs.declared.request.Question.{Question}
+use Rattle.pcml_request.specs.declared.request.Question.TheVariants as question
 use Rattle.pcml_request.specs.declared.request.Running.{Running}
 use Rattle.pcml_request.specs.declared.request.Search.{Search}
 use Rattle.pcml_request.specs.Requests.{all_rows}
@@ -21,19 +25,19 @@ use Rattle.pcml_tool.specs.Play.{IsPlayed, IsFirstRefused}
 use Rattle.pcml_texts.specs.Check.{IsChecked}
 use Rattle.runtime.specs.Played.{NeedsSeasons}
 use Rattle.runtime.specs.Limits.{AreRows, AreSeasons, AreWorkers}
-use Rattle.pcml_texts.specs.Replay.{IsReplayed, IsNoRun, unlawful_line}
+use Rattle.pcml_texts.specs.Replay.{IsNoRun, TellsReplayed, unlawful_line}
 use Rattle.pcml_texts.specs.Chart.{IsCharted}
-use Rattle.pcml_texts.specs.Why.{IsRefused, IsTold, IsWhyOf}
+use Rattle.pcml_texts.specs.Why.{IsWhyOf, TellsWhy}
 use Rattle.protocol_values.specs.declared.Commit.{Commit}
-use Rattle.pcml_texts.specs.Next.{IsNext}
+use Rattle.pcml_texts.specs.Next.{TellsNextOf}
 use Rattle.pcml_tool.specs.Run.{TellsAsked}
-use Rattle.pcml_texts.specs.Stats.{IsCounted}
+use Rattle.pcml_texts.specs.Stats.{TellsStats}
 use Rattle.pcml_tool.specs.Version.{version_line}
 use Rattle.journal_replay.specs.declared.end.End.{End}
 use Rattle.pcml_texts.specs.declared.replay.Replayed.{Replayed}
 use Rattle.pcml_texts.specs.declared.replay.Replayed.TheVariants as replays
-use Rattle.pcml_tool.specs.declared.from_files.Verdict.{Verdict}
-use Rattle.pcml_tool.specs.declared.from_files.Verdict.TheVariants.{Denied, Done, Lacking, Unlawful}
+use Rattle.pcml_tool.specs.declared.answer.Verdict.{Verdict}
+use Rattle.pcml_tool.specs.declared.answer.Verdict.TheVariants.{Denied, Done, Lacking, Unlawful}
 use Rattle.journal_text.specs.Journals as journals
 use Rattle.journal_text.specs.Names.{named}
 use Rattle.outcomes.specs.declared.Outcomes.{Outcomes as Found}
@@ -77,37 +81,30 @@ abbrev pub printed : Bool → List ℕ → List ℕ → List ℕ
 printed true lines rest = rest
 printed false lines rest = lines ++ rest
 
--- What is told of the journal in one file and the script in another: of a run what is to be said of the script's text, of the
--- script and of the journal, and else what is to be said of one that is none.
-abbrev pub OfJournal : Files → List ℕ → List ℕ → (List ℕ → Script → List ℕ → List ℕ → Type 0) → (Script → List ℕ → List ℕ → Type 0) → Verdict → List ℕ → Type 0
-OfJournal Holds script journal Says Refuses Done text = (source : List ℕ) × Holds script source × (s : Script) × Spells source s
-    × (read : List ℕ) × Holds journal read × Fits read × Says source s read text
-OfJournal Holds script journal Says Refuses Unlawful text = OfFiles Holds script journal (λ s read. Fits read × Refuses s read text)
-OfJournal Holds script journal Says Refuses Denied text = ⊥
-OfJournal Holds script journal Says Refuses Lacking text = ⊥
-
 -- the trees of the script that the source spells, with the lines of its text
 pub record AreTreesOf (source : List ℕ) (s : Script) (trees : List Tree) : Type 0 where
   pub same : map block_of trees ≡ map (λ p. p.body) s.processes
   pub lined : AreLined source trees
 
--- where a journal leads, as text, why the processes stand there or why it is no run, its chart, what may come next, and how often each took part
-abbrev pub AnswersReplay : Files → List ℕ → List ℕ → ℕ → Verdict → List ℕ → Type 0
-AnswersReplay Holds script journal rows verdict text = OfJournal Holds script journal (λ source s read told. IsReplayed s rows read told) (λ s read told. IsNoRun s rows read told) verdict text
+-- a chart, in the form that is asked for
+abbrev pub TellsChart : Drawing → Script → ℕ → List ℕ → Replayed → Type 0
+TellsChart d s rows read (replays.Lawful text) = IsCharted s rows read (option_copied d.only) d.from d.to d.form text.items
+TellsChart d s rows read (replays.Unlawful text) = ⊥
 
-abbrev pub AnswersWhy : Files → List ℕ → List ℕ → ℕ → Verdict → List ℕ → Type 0
-AnswersWhy Holds script journal rows verdict text = OfJournal Holds script journal (λ source s read told. (trees : List Tree) × AreTreesOf source s trees × IsTold s trees source rows read told)
-    (λ s read told. IsRefused s rows read told) verdict text
+-- what is told of the script's text, the script and the journal, by what is asked: where the journal leads, why the processes stand there
+-- or why it is no run, its chart, what may come next, and how often each took part
+abbrev pub TellsOf : Question → Script → List ℕ → ℕ → List ℕ → Replayed → Type 0
+TellsOf question.Replay s source rows read told = TellsReplayed s rows read told
+TellsOf question.Why s source rows read told = (trees : List Tree) × AreTreesOf source s trees × TellsWhy s trees source rows read told
+TellsOf (question.Chart d) s source rows read told = TellsChart d s rows read told
+TellsOf question.Next s source rows read told = TellsNextOf s rows read told
+TellsOf question.Stats s source rows read told = TellsStats s rows read told
 
--- of a journal that is no run there is no chart: that is a fault
-abbrev pub AnswersChart : Files → List ℕ → List ℕ → ℕ → Option (List ℕ) → ℕ → ℕ → Form → Verdict → List ℕ → Type 0
-AnswersChart Holds script journal rows only from to form verdict text = OfJournal Holds script journal (λ source s read told. IsCharted s rows read only from to form told) (λ s read told. ⊥) verdict text
-
-abbrev pub AnswersNext : Files → List ℕ → List ℕ → ℕ → Verdict → List ℕ → Type 0
-AnswersNext Holds script journal rows verdict text = OfJournal Holds script journal (λ source s read told. IsNext s rows read told) (λ s read told. IsNoRun s rows read told) verdict text
-
-abbrev pub AnswersStats : Files → List ℕ → List ℕ → ℕ → Verdict → List ℕ → Type 0
-AnswersStats Holds script journal rows verdict text = OfJournal Holds script journal (λ source s read told. IsCounted s rows read told) (λ s read told. IsNoRun s rows read told) verdict text
+-- of the script that the one file spells, and the journal that the other holds
+abbrev pub AnswersJournal : Files → OfJournal → Verdict → List ℕ → Type 0
+AnswersJournal Holds asked verdict text = (source : List ℕ) × Holds asked.script.now source × (s : Script) × Spells source s
+    × (read : List ℕ) × Holds asked.journal.now read × Fits read
+    × (told : Replayed) × TellsOf asked.question s source (all_rows asked.rows asked.seasons) read told × IsJudged told verdict text
 
 -- what is printed where this is told of why a text is no script: of a script that it is one
 abbrev pub IsToldWhyNot : Option (List ℕ) → Verdict → List ℕ → Type 0
@@ -189,30 +186,11 @@ pub record AnswersRun (Holds Keeps : Files) (asked : Running) (verdict : Verdict
   pub told : TellsWhyAsked asked.why s source (all_rows asked.rows asked.seasons) journal why
   pub is : text ≡ printed asked.quiet lines rest ++ why
 
--- nothing is told behind its answer: it is about neither a run nor outcomes
-abbrev pub AsksPlainly : Request → Type 0
-AsksPlainly (Run asked) = ⊥
-AsksPlainly (Outcomes search) = ⊥
-AsksPlainly asked = Unit {0}
-
--- it is about where the journal in a file leads
-abbrev pub AsksOfJournal : Request → Type 0
-AsksOfJournal (Replay script journal rows seasons) = Unit {0}
-AsksOfJournal (Why script journal rows seasons) = Unit {0}
-AsksOfJournal (Chart script journal rows seasons from to only form) = Unit {0}
-AsksOfJournal (Next script journal rows) = Unit {0}
-AsksOfJournal (Stats script journal rows seasons) = Unit {0}
-AsksOfJournal asked = ⊥
-
--- The line of the one pair (or none), what comes of the schedule, the script or the run that is asked for, where the journal
--- leads the script, why the processes stand there, why a text is no script, a chart, what may come next there, how often each took part, what the script
--- can come to, what a fault means, or the version. Where the journal of a run is to go to a file, the file keeps its lines at the end.
+-- The line of the one pair (or none), what comes of the schedule, the script or the run that is asked for, what is asked of a script and
+-- a journal, why a text is no script, what the script can come to, what a fault means, or the version. Where the journal of a run is to
+-- go to a file, the file keeps its lines at the end.
 abbrev pub Answers : Files → Files → Request → Verdict → List ℕ → Type 0
-Answers Holds Keeps (Replay script journal rows seasons) verdict text = AnswersReplay Holds script.now journal.now (all_rows rows seasons) verdict text
-Answers Holds Keeps (Why script journal rows seasons) verdict text = AnswersWhy Holds script.now journal.now (all_rows rows seasons) verdict text
-Answers Holds Keeps (Chart script journal rows seasons from to only form) verdict text = AnswersChart Holds script.now journal.now (all_rows rows seasons) (option_copied only) from to form verdict text
-Answers Holds Keeps (Next script journal rows) verdict text = AnswersNext Holds script.now journal.now rows verdict text
-Answers Holds Keeps (Stats script journal rows seasons) verdict text = AnswersStats Holds script.now journal.now (all_rows rows seasons) verdict text
+Answers Holds Keeps (request.OfJournal asked) verdict text = AnswersJournal Holds asked verdict text
 Answers Holds Keeps (WhyScript name) verdict text = AnswersWhyScript Holds name.now verdict text
 Answers Holds Keeps (WhyShort name) verdict text = AnswersWhyShort Holds name.now verdict text
 Answers Holds Keeps (Outcomes search) verdict text = AnswersOutcomes Holds Keeps search verdict text
@@ -253,19 +231,35 @@ FailsPlay Holds name (faults.BadStep line) = OfSchedule Holds name (λ bytes. Is
 FailsPlay Holds name (faults.NotAllowed step) = OfSchedule Holds name (λ bytes. IsFirstRefused bytes step)
 FailsPlay Holds name fault = FailsRead (Holds name) fault
 
--- what a fault of reading a script and a journal of it says
-abbrev pub FailsReplay : Files → List ℕ → List ℕ → Fault → Type 0
-FailsReplay Holds script journal faults.Memory = Unit {0}
-FailsReplay Holds script journal faults.Unread = Unit {0}
-FailsReplay Holds script journal faults.TooLarge = OfFiles Holds script journal (λ s read. IsTooLarge read)
-FailsReplay Holds script journal (faults.BadLine line) = OfFiles Holds script journal (λ s read. Fits read × journals.IsFirstBadLine s read line)
-FailsReplay Holds script journal fault = FailsScript Holds script fault
+-- what a fault of a chart says: that the journal is no run, and with which line first, or that no process has a name
+abbrev pub BreaksChart : Question → Script → ℕ → List ℕ → ℕ → Type 0
+BreaksChart (question.Chart d) s rows read line = IsNoRun s rows read (unlawful_line line)
+BreaksChart asked s rows read line = ⊥
 
--- what a fault of drawing one says: also that the journal is no run, and with which line first, or that no process has a name
-abbrev pub FailsChart : Files → List ℕ → List ℕ → ℕ → Option (List ℕ) → Fault → Type 0
-FailsChart Holds script journal rows only (faults.NoRun line) = OfFiles Holds script journal (λ s read. Fits read × IsNoRun s rows read (unlawful_line line))
-FailsChart Holds script journal rows only (faults.Unnamed name) = OfScript Holds script (λ s. MisnamesAny s only (names.Unnamed name))
-FailsChart Holds script journal rows only fault = FailsReplay Holds script journal fault
+abbrev pub MisnamesChart : Question → Script → NamesFault → Type 0
+MisnamesChart (question.Chart d) s fault = MisnamesAny s (option_copied d.only) fault
+MisnamesChart asked s fault = ⊥
+
+-- what a fault says of the script and the journal that were read
+abbrev pub FailsOf : Question → Script → ℕ → List ℕ → Fault → Type 0
+FailsOf asked s rows read faults.Memory = Unit {0}
+FailsOf asked s rows read (faults.BadLine line) = journals.IsFirstBadLine s read line
+FailsOf asked s rows read (faults.NoRun line) = BreaksChart asked s rows read line
+FailsOf asked s rows read (faults.Unnamed name) = MisnamesChart asked s (names.Unnamed name)
+FailsOf asked s rows read fault = ⊥
+
+-- what it says of their files
+abbrev pub FailsAsOf : Files → OfJournal → Fault → Type 0
+FailsAsOf Holds asked fault = OfFiles Holds asked.script.now asked.journal.now (λ s read. Fits read × FailsOf asked.question s (all_rows asked.rows asked.seasons) read fault)
+
+abbrev pub FailsJournal : Files → OfJournal → Fault → Type 0
+FailsJournal Holds asked faults.Memory = Unit {0}
+FailsJournal Holds asked faults.Unread = Unit {0}
+FailsJournal Holds asked faults.TooLarge = OfFiles Holds asked.script.now asked.journal.now (λ s read. IsTooLarge read)
+FailsJournal Holds asked (faults.BadLine line) = FailsAsOf Holds asked (faults.BadLine line)
+FailsJournal Holds asked (faults.NoRun line) = FailsAsOf Holds asked (faults.NoRun line)
+FailsJournal Holds asked (faults.Unnamed name) = FailsAsOf Holds asked (faults.Unnamed name)
+FailsJournal Holds asked fault = FailsScript Holds asked.script.now fault
 
 -- want of memory, or the first name that no process has
 abbrev pub FailsNamed : Script → Option (List ℕ) → Fault → Type 0
@@ -310,14 +304,10 @@ Fails Holds (Meet value) fault = (fault ≡ faults.Memory) ⊎ (fault ≡ faults
 Fails Holds (Play name) fault = FailsPlay Holds name.now fault
 Fails Holds (Check name) fault = FailsParse Holds name.now fault
 Fails Holds (Explain topic) fault = fault ≡ faults.Memory
-Fails Holds (Why script journal rows seasons) fault = FailsReplay Holds script.now journal.now fault
+Fails Holds (request.OfJournal asked) fault = FailsJournal Holds asked fault
 Fails Holds (WhyScript name) fault = FailsRead (λ bytes. ⊥) fault
 Fails Holds (WhyShort name) fault = FailsRead (λ bytes. ⊥) fault
-Fails Holds (Chart script journal rows seasons from to only form) fault = FailsChart Holds script.now journal.now (all_rows rows seasons) (option_copied only) fault
-Fails Holds (Next script journal rows) fault = FailsReplay Holds script.now journal.now fault
-Fails Holds (Stats script journal rows seasons) fault = FailsReplay Holds script.now journal.now fault
 Fails Holds (Outcomes search) fault = FailsOutcomes Holds search fault
-Fails Holds (Replay script journal rows seasons) fault = FailsReplay Holds script.now journal.now fault
 Fails Holds (Run asked) fault = FailsRunning Holds asked fault
 Fails Holds Version fault = fault ≡ faults.Memory
 

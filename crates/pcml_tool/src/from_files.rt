@@ -1,6 +1,7 @@
 //! What comes of the files that a request names.
 
 ghost use Rattle.std.specs.Prelude.{◌≡◌, ◌≢◌, ◌≤◌, ◌⊎◌, List, ℕ, None, IfSome, IfOk, IfErr, OnOk};
+ghost use Rattle.protocol_values.specs.Commits.{most_rows};
 ghost use Rattle.std.specs.Option.{option_map};
 ghost use Rattle.script.specs.Lines.{trees_of_script};
 ghost use Rattle.script.specs.Scripts.{script_of};
@@ -116,7 +117,7 @@ fn told_of(
     rows: u32,
     question: Question<'_>,
 ) -> Result<Replayed, Fault>
-    requires rows { rows ≤ 67107840 }
+    requires rows { rows ≤ most_rows }
     requires trees { AreTreesOf text.now (script_of script.now) (trees_of_script script.now) }
     ensures told { IfOk result (TellsOf question.entry (script_of script.now) text.now rows journal.now) }
     ensures fault { IfErr result (FailsOf question.entry (script_of script.now) rows journal.now) }

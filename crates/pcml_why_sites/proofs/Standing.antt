@@ -1,9 +1,13 @@
 -- The processes of a script by their numbers, how they stand, and what commits give a thread.
-use Rattle.std.proofs.Common.{◌≡◌, ℕ, ◌+◌, ◌<◌, List, [], ◌∷◌, ◌++◌, Some, ap, get_or, length, map, sym, slice_get, take, ◌∙◌}
+use Rattle.std.proofs.Common.{◌≡◌, ℕ, ◌+◌, ◌<◌, List, [], ◌∷◌, ◌++◌, Option, None, Some, ap, get_or, length, map, subst, sym, slice_get, take, ◌∙◌}
 use Rattle.std.proofs.lemmas.List.{get_or-map}
-use Rattle.std.proofs.lemmas.Option.{get_or_from_slice_get, slice_get-get_or}
+use Rattle.std.proofs.lemmas.Option.{get_or_from_slice_get, none-some, same_Some, slice_get-get_or}
 use Rattle.script_tree.specs.Processes.{Proc}
 use Rattle.protocol_values.specs.declared.Commit.{Commit}
+use Rattle.protocol_values.specs.declared.Commit.TheVariants.{Alone, Pair}
+use Rattle.protocol_values.specs.declared.Message.TheVariants.{Empty}
+use Rattle.protocol_values.specs.declared.RowResult.{RowResult}
+use Rattle.protocol_values.specs.Commits.{gives}
 use Rattle.thread.specs.After.{Chosen}
 use Rattle.thread.specs.Values.{Store}
 use Rattle.thread_stand.specs.Stands.{standing_of}
@@ -50,6 +54,20 @@ gives-none thread of r old other = λ config is. is ∙ sym (result-other of thr
 
 pub gives-both : (thread : ℕ) (f g : Config → Config) (old middle new : List Chosen) → Gives thread f old middle → Gives thread g middle new → Gives thread (λ config. g (f config)) old new
 gives-both thread f g old middle new first second = λ config is. second (f config) (first config is)
+
+-- what a commit gives its rows is what it does
+pub gives-pair : (thread : ℕ) (c : Commit) (first second : RowResult) (old middle new : List Chosen) → gives c ≡ (first, Some second) → Gives thread (with_result first.at.0.thread (first.at.1, first.message)) old middle →
+    Gives thread (with_result second.at.0.thread (second.at.1, second.message)) middle new → Gives thread (λ config. applied config c) old new
+gives-pair thread (Pair sender receiver chan msg stamp) first second old middle new is one two =
+    gives-both thread (with_result sender.0.thread (sender.1, Empty)) (with_result receiver.0.thread (receiver.1, msg)) old middle new
+    (subst (λ (r : RowResult). Gives thread (with_result r.at.0.thread (r.at.1, r.message)) old middle) (sym (ap (λ (z : RowResult × Option RowResult). z.0) is)) one)
+    (subst (λ (r : RowResult). Gives thread (with_result r.at.0.thread (r.at.1, r.message)) middle new) (sym (same_Some _ second (ap (λ (z : RowResult × Option RowResult). z.1) is))) two)
+gives-pair thread (Alone at why stamp) first second old middle new is one two = absurd (none-some second (ap (λ (z : RowResult × Option RowResult). z.1) is))
+
+pub gives-alone : (thread : ℕ) (c : Commit) (only : RowResult) (old new : List Chosen) → gives c ≡ (only, None) → Gives thread (with_result only.at.0.thread (only.at.1, only.message)) old new → Gives thread (λ config. applied config c) old new
+gives-alone thread (Pair sender receiver chan msg stamp) only old new is one = absurd (none-some _ (sym (ap (λ (z : RowResult × Option RowResult). z.1) is)))
+gives-alone thread (Alone at why stamp) only old new is one =
+    subst (λ (r : RowResult). Gives thread (with_result r.at.0.thread (r.at.1, r.message)) old new) (sym (ap (λ (z : RowResult × Option RowResult). z.0) is)) one
 
 -- one more commit
 pub results-more : (commits : List Commit) (thread i : ℕ) (e : Commit) (old new : List Chosen) → i < length commits → old ≡ config_of (take i commits) thread → Gives thread (λ config. applied config (get_or commits i e)) old new →

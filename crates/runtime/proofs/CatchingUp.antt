@@ -12,7 +12,10 @@ use Rattle.protocol_values.specs.declared.Commit.TheVariants.{Pair, Alone}
 use Rattle.protocol_values.specs.declared.Message.{Message}
 use Rattle.protocol_values.specs.declared.Message.TheVariants.{Empty}
 use Rattle.protocol_values.specs.declared.Row.{Row}
+use Rattle.protocol_values.specs.declared.RowResult.{RowResult}
 use Rattle.script_tree.specs.Processes.{Proc}
+use Rattle.script_tree.specs.declared.tree.Block.{Block as Tree}
+use Rattle.journal.specs.Concluding.{RunTrees}
 use Rattle.thread.specs.After.{Chosen}
 use Rattle.thread.specs.Machines.{HasStopped, Thread}
 use Rattle.thread.specs.Ranges.{BaseIsIn, MessageIsIn}
@@ -47,6 +50,12 @@ has_stopped had g chosen old new stopped c = ⊎_elim
     (λ (on : (had + g ≡ length old.results) × GoesOnBy chosen old new). on.1.stopped)
     c.1
 
+same_tree : (had g : ℕ) (chosen : Chosen) (old new : Thread) → CatchesUp had g chosen old new → new.body ≡ old.body
+same_tree had g chosen old new c = ⊎_elim
+    (λ (same : new ≡ old). ap (λ (m : Thread). m.body) same)
+    (λ (on : (had + g ≡ length old.results) × GoesOnBy chosen old new). on.1.process.body)
+    c.1
+
 -- THE MACHINE AT ONE PLACE
 module _ (had : List ℕ) (at : Row × ℕ) (message : Message) (old new : List (Option Thread)) (c : CatchesUpAt had at message old new) where
   within : at.0.thread < length old
@@ -72,6 +81,14 @@ module _ (had : List ℕ) (at : Row × ℕ) (message : Message) (old new : List 
       (λ (other : t ≡ at.0.thread → ⊥). (m, ap (λ (l : List (Option Thread)). slice_get l t) c.is ∙ get_set_other old at.0.thread t (Some c.behind) other ∙ e, omega arith))
       (cases_eq t at.0.thread)
 
+  pub trees_at : (trees : List Tree) → RunTrees trees old → RunTrees trees new
+  trees_at trees run t m e = ⊎_elim
+      (λ (own : (t ≡ at.0.thread) × (m ≡ c.behind)).
+      ap (slice_get trees) own.0 ∙ run at.0.thread c.before c.was ∙ ap (λ (b : Tree). Some b) (sym (same_tree (had_by had at.0.thread) at.0.sync (at.1, message) c.before c.behind c.catches))
+      ∙ ap (λ (x : Thread). Some x.body) (sym own.1))
+      (λ (before : slice_get old t ≡ Some (Some m)). run t m before)
+      (place_cases t m e)
+
   pub stopped_at : ((t : ℕ) (m : Thread) → slice_get old t ≡ Some (Some m) → HasStopped m.phase) → (t : ℕ) (m : Thread) → slice_get new t ≡ Some (Some m) → HasStopped m.phase
   stopped_at all t m e = ⊎_elim
       (λ (own : (t ≡ at.0.thread) × (m ≡ c.behind)).
@@ -94,6 +111,14 @@ pub stopped_with : (had : List ℕ) (c : Commit) (old new : List (Option Thread)
     → HasStopped m.phase
 stopped_with had (Pair sender receiver chan msg stamp) old new c all = stopped_at had receiver msg c.0 new c.2 (stopped_at had sender Empty old c.0 c.1 all)
 stopped_with had (Alone at why stamp) old new c all = stopped_at had at (message_by why) old new c all
+
+-- of the two rows of a pair
+pub stopped_first : (had : List ℕ) (first : RowResult) (old new : List (Option Thread)) → CatchesUpAt had first.at first.message old new → ((t : ℕ) (m : Thread) → slice_get old t ≡ Some (Some m) → HasStopped m.phase) → (t : ℕ) (m : Thread) → slice_get new t ≡ Some (Some m) → HasStopped m.phase
+stopped_first had first old new c all = stopped_at had first.at first.message old new c all
+
+pub trees_with : (had : List ℕ) (c : Commit) (old new : List (Option Thread)) → CatchesUpWith had c old new → (trees : List Tree) → RunTrees trees old → RunTrees trees new
+trees_with had (Pair sender receiver chan msg stamp) old new c trees run = trees_at had receiver msg c.0 new c.2 trees (trees_at had sender Empty old c.0 c.1 trees run)
+trees_with had (Alone at why stamp) old new c trees run = trees_at had at (message_by why) old new c trees run
 
 pub kept_with : (had : List ℕ) (c : Commit) (old new : List (Option Thread)) → CatchesUpWith had c old new → (d : Commit) → HasResults had old d → HasResults had new d
 kept_with had (Pair sender receiver chan msg stamp) old new c d has = kept_at had receiver msg c.0 new c.2 d (kept_at had sender Empty old c.0 c.1 d has)

@@ -1,8 +1,9 @@
 -- A season of a run: what is known of its table before the first turn, and behind the last one.
-use Rattle.std.specs.Prelude.{◌≡◌, ◌<◌, ◌≤◌, ◌+◌, ◌*◌, ℕ, All, Contains, List, Option, None, Some, length, slice_get}
+use Rattle.std.specs.Prelude.{◌≡◌, ◌<◌, ◌≤◌, ◌+◌, ◌*◌, ℕ, All, Contains, List, Option, None, Some, ⊤, length, map, slice_get}
 use Rattle.protocol_values.specs.declared.Commit.{Commit}
 use Rattle.protocol_values.specs.declared.NackName.{NackName}
 use Rattle.script_tree.specs.Processes.{Proc}
+use Rattle.script_tree.specs.declared.tree.Block.{Block as Tree}
 use Rattle.protocol.specs.Acting.{ActsAs, HasStart, acts_in, before_of}
 use Rattle.protocol.specs.Ledgers.{HasCommit, IsLawful, Ledger, carried_in, course_in}
 use Rattle.protocol.specs.Openings.{HadStarted, LeadsOn, Opening, TellsEnd, greatest, opening_of, state_in, thread_in, word_for}
@@ -15,9 +16,9 @@ use Rattle.runtime_worker.specs.Machines.{IsTable, doings}
 use Rattle.runtime_worker.specs.Workers.{IsNewPassOf}
 use Rattle.journal_replay.specs.Runs.{IsRun, config_of}
 use Rattle.journal_order.specs.Behind.{GoesOn, TellsRun, run_on}
-use Rattle.journal.specs.Concluding.{AreGone}
+use Rattle.journal.specs.Concluding.{AreGone, RunTrees}
 use Rattle.runtime.specs.Between.{AreHad, HasResults}
-use Rattle.runtime_run.specs.Machines.{AreLeftBy}
+use Rattle.runtime_run.specs.Machines.{AreLeftBy, machine_in}
 use Rattle.runtime.specs.Played.{ArePlayed, NeedsOneMore}
 use Rattle.runtime.specs.declared.season.ClosedSeason.{ClosedSeason}
 use Rattle.runtime.specs.declared.season.Next.{Next}
@@ -87,6 +88,13 @@ pub record IsClosed (ps : List Proc) (c : ClosedSeason) : Type 0 where
 abbrev pub HaveCaughtUp : ClosedSeason → Type 0
 HaveCaughtUp c = (d : Commit) → HasCommit c.ledger d → HasResults c.had.items c.machines.items d
 
+-- the machines of a season run these trees
+abbrev pub SeasonRuns : List Tree → Season → Type 0
+SeasonRuns trees s = RunTrees trees (map machine_in s.cells.first) × RunTrees trees s.resting.items
+
+abbrev pub ClosedRuns : List Tree → ClosedSeason → Type 0
+ClosedRuns trees c = RunTrees trees c.machines.items × RunTrees trees c.resting.items
+
 -- WHAT FOLLOWS A SEASON
 
 -- the commits are a run in so many rows; where something is known of their end, the opening tells of it, and the machines have gone part of it
@@ -99,3 +107,13 @@ abbrev pub LeadsTo : List Proc → ℕ → ℕ → ℕ → Next → Type 0
 LeadsTo ps done rows seasons (next.Season s) = IsSeason ps s × (s.done ≡ done + 1) × (s.done < seasons) × (s.cells.rows ≡ rows)
 LeadsTo ps done rows seasons (next.End journal standing) = EndsRun ps ((done + 1) * rows) journal.items standing × ArePlayed ps rows (done + 1) journal.items
 LeadsTo ps done rows seasons next.Spent = NeedsOneMore ps rows (done + 1) × (seasons ≤ done + 1)
+
+-- the machines that are at hand run these trees
+abbrev pub EndRuns : List Tree → Option Standing → Type 0
+EndRuns trees None = ⊤
+EndRuns trees (Some s) = RunTrees trees s.machines.items
+
+abbrev pub NextRuns : List Tree → Next → Type 0
+NextRuns trees (next.Season s) = SeasonRuns trees s
+NextRuns trees (next.End journal standing) = EndRuns trees standing
+NextRuns trees next.Spent = ⊤

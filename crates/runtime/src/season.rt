@@ -2,9 +2,11 @@
 
 ghost use Rattle.std.specs.Prelude.{◌≡◌, ◌≤◌, ◌<◌, ◌+◌, ◌*◌, ℕ, IfOk, List, length, map};
 ghost use Rattle.script_tree.specs.Processes.{Proc};
+ghost use Rattle.script_tree.specs.declared.tree.Block.{Block as Tree};
+ghost use Rattle.script.specs.Lines.{trees_of_script};
 ghost use Rattle.script.specs.Scripts.{script_of};
 ghost use Rattle.runtime_run.specs.Limits.{AreRows, AreWorkers};
-ghost use Rattle.runtime.specs.Season.{HaveCaughtUp, IsClosed, IsSeason, LeadsTo};
+ghost use Rattle.runtime.specs.Season.{ClosedRuns, HaveCaughtUp, IsClosed, IsSeason, LeadsTo, NextRuns, SeasonRuns};
 
 use crate::between::{
     add_renumbered, are_spent, catch_up_all, counts_of, go_on_all, keep_all, none_each,
@@ -83,7 +85,8 @@ pub(crate) fn first_season(
     requires workers { AreWorkers workers }
     requires rows { AreRows rows }
     requires some { 1 ≤ length (script_of script.now).processes }
-    ensures { IfOk result (λ s. IsSeason (script_of script.now).processes s × (s.done ≡ 0) × (s.cells.rows ≡ rows)) }
+    ensures season { IfOk result (λ s. IsSeason (script_of script.now).processes s × (s.done ≡ 0) × (s.cells.rows ≡ rows)) }
+    ensures trees { IfOk result (SeasonRuns (trees_of_script script.now)) }
 {
     let processes = script.processes();
     let first = first_machines(alloc, processes)?;
@@ -119,7 +122,8 @@ pub(crate) fn play_season<R: Threads + Wait + Sync, G: Gate + StepGate + Sync>(
     requires workers { AreWorkers workers }
     requires season { IsSeason (script_of script.now).processes season }
     requires few { season.done < 65535 }
-    ensures { IfOk result (λ c. IsClosed (script_of script.now).processes c × (c.done ≡ season.done) × (c.ledger.rows ≡ season.cells.rows)) }
+    ensures closed { IfOk result (λ c. IsClosed (script_of script.now).processes c × (c.done ≡ season.done) × (c.ledger.rows ≡ season.cells.rows)) }
+    ensures trees { IfOk result (λ c. (trees : List Tree) → SeasonRuns trees season → ClosedRuns trees c) }
 {
     let Season {
         done,
@@ -160,7 +164,8 @@ pub(crate) fn follow(
     requires closed { IsClosed (script_of script.now).processes closed }
     requires same { closed.ledger.rows ≡ rows }
     requires few { seasons ≤ 65535 }
-    ensures { IfOk result (LeadsTo (script_of script.now).processes closed.done rows seasons) }
+    ensures leads { IfOk result (LeadsTo (script_of script.now).processes closed.done rows seasons) }
+    ensures trees { IfOk result (λ n. ClosedRuns (trees_of_script script.now) closed → NextRuns (trees_of_script script.now) n) }
 {
     let mut closed = closed;
     if !catch_up_all(&mut closed.machines, &closed.had, &closed.commits)? {
@@ -177,7 +182,8 @@ pub(crate) fn follow(
 
 /// The end of the workers' run behind the last season, whose machines have caught up.
 fn end_of(closed: ClosedSeason) -> Next
-    ensures { (ps : List Proc) (seasons : ℕ) → IsClosed ps closed → LeadsTo ps closed.done closed.ledger.rows seasons result }
+    ensures leads { (ps : List Proc) (seasons : ℕ) → IsClosed ps closed → LeadsTo ps closed.done closed.ledger.rows seasons result }
+    ensures trees { (trees : List Tree) → ClosedRuns trees closed → NextRuns trees result }
 {
     let ClosedSeason {
         journal,
@@ -209,7 +215,8 @@ fn next_season(
     requires caught { HaveCaughtUp closed }
     requires same { closed.ledger.rows ≡ rows }
     requires few { closed.done < 65534 }
-    ensures { IfOk result (LeadsTo (script_of script.now).processes closed.done rows (closed.done + 2)) }
+    ensures leads { IfOk result (LeadsTo (script_of script.now).processes closed.done rows (closed.done + 2)) }
+    ensures trees { IfOk result (λ n. ClosedRuns (trees_of_script script.now) closed → NextRuns (trees_of_script script.now) n) }
 {
     let ClosedSeason {
         done,

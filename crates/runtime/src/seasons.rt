@@ -1,13 +1,16 @@
 //! A run in seasons: the workers' seasons one after another, and the commits of all of them led on to their end together.
 
-ghost use Rattle.std.specs.Prelude.{◌≡◌, ◌≢◌, ◌↔◌, ◌*◌, ◌≤◌, Err, IfErr, IfOk, IsTrue, List, length};
+ghost use Rattle.std.specs.Prelude.{◌≡◌, ◌≢◌, ◌↔◌, ◌*◌, ◌≤◌, Err, IfErr, IfOk, IfSome, IsTrue, List, length};
+ghost use Rattle.protocol_values.specs.Commits.{most_rows};
 ghost use Rattle.protocol_values.specs.declared.Commit.{Commit};
+ghost use Rattle.script.specs.Lines.{trees_of_script};
 ghost use Rattle.script.specs.Scripts.{script_of};
+ghost use Rattle.journal_replay.specs.Lines.{trees_in};
 ghost use Rattle.journal.specs.Records.{CompletesRun};
 ghost use Rattle.runtime_run.specs.Headline.{TellsFreeRun};
 ghost use Rattle.runtime_run.specs.Limits.{AreRows, AreSeasons, AreWorkers};
 ghost use Rattle.runtime.specs.Played.{ArePlayedWithin, HasSpent, NeedsSeasons};
-ghost use Rattle.runtime.specs.Season.{EndsRun};
+ghost use Rattle.runtime.specs.Season.{EndRuns, EndsRun};
 ghost use Rattle.runtime.specs.Seasons.{EndSeasons, IsHalt, RefusesCommits};
 ghost use Rattle.runtime.specs.declared.seasons.SeasonFault.TheVariants.{Workers, Rows, Seasons, SeasonCount, Lost, Unlawful};
 
@@ -60,9 +63,10 @@ fn led_on(
     commits: Vec<Commit>,
     standing: Option<Standing>,
 ) -> Result<Record, AllocError>
-    requires rows { rows ≤ 67107840 }
+    requires rows { rows ≤ most_rows }
     requires run { EndsRun (script_of script.now).processes rows commits.items standing }
-    ensures { IfOk result (CompletesRun (script_of script.now).processes rows commits.items) }
+    ensures completes { IfOk result (CompletesRun (script_of script.now).processes rows commits.items) }
+    ensures trees { IfOk result (λ r. EndRuns (trees_of_script script.now) standing → trees_in r.state ≡ trees_of_script script.now) }
 {
     let processes = script.processes();
     let Some(Standing { opening, machines }) = standing else {
@@ -72,7 +76,7 @@ fn led_on(
 }
 
 /// The record of a run without a limit on syncs, of these commits of all seasons, which are a run. The rows are those of
-/// all seasons, 1 to 67107840.
+/// all seasons, 1 to `MOST_ROWS`.
 ///
 /// It is refused where memory ran out, and where a process, behind what was added, stands at a sync with as many
 /// results as there are rows.
@@ -83,10 +87,11 @@ pub(crate) fn concluded(
     commits: Vec<Commit>,
     standing: Option<Standing>,
 ) -> Result<Record, SeasonFault>
-    requires rows { rows ≤ 67107840 }
+    requires rows { rows ≤ most_rows }
     requires run { EndsRun (script_of script.now).processes rows commits.items standing }
     ensures headline { IfOk result (TellsFreeRun (script_of script.now).processes) }
     ensures completes { IfOk result (CompletesRun (script_of script.now).processes rows commits.items) }
+    ensures trees { IfOk result (λ r. EndRuns (trees_of_script script.now) standing → trees_in r.state ≡ trees_of_script script.now) }
     ensures refuses { IfErr result (RefusesCommits (script_of script.now).processes rows commits.items) }
 {
     match led_on(alloc, script, rows, commits, standing) {
@@ -105,7 +110,7 @@ fn has_spent(ends: &[End]) -> bool
     ensures { IsTrue result ↔ HasSpent ends.now }
 {
     for end in ends {
-        if matches!(end, End::Spent) {
+        if end.is_spent() {
             return true;
         }
     }
@@ -157,7 +162,8 @@ fn work_seasons<R: Threads + Wait + Sync, G: Gate + StepGate + Sync>(
     requires rows { AreRows rows }
     requires seasons { AreSeasons seasons }
     requires some { 1 ≤ length (script_of script.now).processes }
-    ensures { IfOk result (EndSeasons (script_of script.now).processes rows seasons) }
+    ensures ends { IfOk result (EndSeasons (script_of script.now).processes rows seasons) }
+    ensures trees { IfOk result (λ end. IfSome end (λ e. EndRuns (trees_of_script script.now) e.1)) }
 {
     let used = rows_used(script.processes(), rows);
     let mut season = first_season(alloc, script, workers, used)?;
@@ -183,6 +189,7 @@ pub fn run_seasons_gated<R: Threads + Wait + Sync, G: Gate + StepGate + Sync>(
 ) -> Result<Record, SeasonFault>
     ensures headline { IfOk result (TellsFreeRun (script_of script.now).processes) }
     ensures completes { IfOk result (λ r. (commits : List Commit) × CompletesRun (script_of script.now).processes (seasons * rows) commits r × ArePlayedWithin (script_of script.now).processes rows seasons commits) }
+    ensures trees { IfOk result (λ r. trees_in r.state ≡ trees_of_script script.now) }
     ensures workers { (result ≡ Err Workers) ↔ (¬ AreWorkers workers) }
     ensures rows { (result ≡ Err Rows) ↔ (AreWorkers workers × (¬ AreRows rows)) }
     ensures seasons { (result ≡ Err SeasonCount) ↔ (AreWorkers workers × AreRows rows × (¬ AreSeasons seasons)) }
@@ -221,6 +228,7 @@ pub fn run_seasons<R: Threads + Wait + Sync, G: Gate + Sync>(
 ) -> Result<Record, SeasonFault>
     ensures headline { IfOk result (TellsFreeRun (script_of script.now).processes) }
     ensures completes { IfOk result (λ r. (commits : List Commit) × CompletesRun (script_of script.now).processes (seasons * rows) commits r × ArePlayedWithin (script_of script.now).processes rows seasons commits) }
+    ensures trees { IfOk result (λ r. trees_in r.state ≡ trees_of_script script.now) }
     ensures workers { (result ≡ Err Workers) ↔ (¬ AreWorkers workers) }
     ensures rows { (result ≡ Err Rows) ↔ (AreWorkers workers × (¬ AreRows rows)) }
     ensures seasons { (result ≡ Err SeasonCount) ↔ (AreWorkers workers × AreRows rows × (¬ AreSeasons seasons)) }

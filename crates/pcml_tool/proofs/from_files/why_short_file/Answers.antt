@@ -2,7 +2,7 @@ use Rattle.std.proofs.Common.{◌≡◌, inl, inr, ℕ, List, length, Option, So
 use Rattle.std.specs.Option.{option_map}
 use Rattle.pcml_files.specs.Files.{IsReadOf}
 use Rattle.script_mistakes.specs.Short.{TellsWhyShort}
-use Rattle.pcml_tool.proofs.Wholes.{take_shorter, with_ok}
+use Rattle.pcml_tool.proofs.Wholes.{take_shorter}
 use Rattle.pcml_tool.proofs.from_files.why_short_file.Goals as goal
 
 -- what is told of a beginning that is too large is told of the whole file
@@ -21,4 +21,4 @@ returns-clause-done g c =
     let told = option_map (λ t. t.items) c.in_ok-why_short.field-0 in
     let file = c.in_ok-bytes.ensures.file in
     let tells : TellsWhyShort name c.in_ok-bytes.bytes.items told = subst (λ (bs : List ℕ). TellsWhyShort name bs told) c.deref.ensures.value c.in_ok-why_short.ensures in
-    with_ok c.told_short.result _ _ c.told_short.ensures.told (λ answer is. (file.0, file.1, told, whole_tells name file.0 c.in_ok-bytes.bytes.items told file.2 tells, is))
+    (file.0, file.1, told, whole_tells name file.0 c.in_ok-bytes.bytes.items told file.2 tells, c.told_short.ensures)

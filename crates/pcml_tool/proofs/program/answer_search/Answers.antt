@@ -26,7 +26,7 @@ returns-clause-done g c =
     let holds = g.S.Source.holds in
     let name = option_copied search.journal in
     let lines = bytes_of listed.journal in
-    let kept = c.in_ok-verdict.ensures in
+    let kept = c.in_ok-answer.ensures in
     record {
       source = read.0;
       holds = read.1;

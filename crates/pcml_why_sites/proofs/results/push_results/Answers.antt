@@ -1,20 +1,18 @@
-use Rattle.std.proofs.Common.{subst, sym}
+use Rattle.std.proofs.Common.{None, Some, ap, sym, ◌∙◌}
 use Rattle.std.proofs.lemmas.Result.{on_ok_weaker}
-use Rattle.protocol_values.specs.declared.Commit.{Commit}
-use Rattle.protocol_values.specs.declared.Message.TheVariants.{Empty}
-use Rattle.journal_replay.specs.Runs.{applied, with_result}
-use Rattle.pcml_why_sites.specs.Results.{Gives}
-use Rattle.pcml_why_sites.proofs.Standing.{gives-both}
+use Rattle.pcml_why_sites.proofs.Standing.{gives-alone, gives-pair}
 use Rattle.pcml_why_sites.proofs.results.push_results.Goals as goal
 
-pub returns-in_ok-push_result-in-Pair : goal.returns-in_ok-push_result-in-Pair
-returns-in_ok-push_result-in-Pair c =
-    let sender = c.in-Pair.sender in
-    let receiver = c.in-Pair.receiver in
-    let old = c.args.results.now.items in
-    let new = c.push_result-in-Pair.new.results.items in
-    on_ok_weaker c.push_result-in-Pair.result
+pub returns-in_ok-push_result-in_default-Some : goal.returns-in_ok-push_result-in_default-Some
+returns-in_ok-push_result-in_default-Some c =
+    on_ok_weaker c.push_result-in_default-Some.result
     (λ second.
-    subst (λ (d : Commit). Gives c.args.thread (λ config. applied config d) old new) (sym c.in-Pair.is)
-    (gives-both c.args.thread (with_result sender.0.thread (sender.1, Empty)) (with_result receiver.0.thread (receiver.1, c.in-Pair.msg)) old c.push_result.new.results.items new c.in_ok-push_result-in-Pair.ensures second))
-    c.push_result-in-Pair.ensures
+    gives-pair c.args.thread c.args.commit.now c.gives.result.0 c.in_default-Some.receiver c.args.results.now.items c.push_result.new.results.items c.push_result-in_default-Some.new.results.items
+    (sym c.gives.ensures ∙ ap (λ o. (c.gives.result.0, o)) c.in_default-Some.is-1) c.in_ok-push_result-in_default-Some.ensures second)
+    c.push_result-in_default-Some.ensures
+
+pub returns-in_default-None : goal.returns-in_default-None
+returns-in_default-None c =
+    on_ok_weaker c.push_result-in_default-None.result
+    (λ only. gives-alone c.args.thread c.args.commit.now c.gives.result.0 c.args.results.now.items c.push_result-in_default-None.new.results.items (sym c.gives.ensures ∙ ap (λ o. (c.gives.result.0, o)) c.in_default-None.is-1) only)
+    c.push_result-in_default-None.ensures

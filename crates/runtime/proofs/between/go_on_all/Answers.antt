@@ -2,7 +2,10 @@ use Rattle.std.proofs.Common.{◌≡◌, ◌<◌, ◌∷◌, ◌∙◌, [], ℕ,
 use Rattle.std.specs.Option.{option_map}
 use Rattle.std.proofs.lemmas.List.{length-append}
 use Rattle.std.proofs.lemmas.Option.{slice_get-get_or, slice_get-map, slice_get_read, slice_get_within}
-use Rattle.script_tree.specs.Processes.{Proc, proc_of}
+use Rattle.script_tree.specs.Processes.{Proc, proc_of, tree_of}
+use Rattle.journal.specs.Concluding.{RunTrees}
+use Rattle.runtime_run.specs.Machines.{machine_in}
+use Rattle.runtime.proofs.Keeping.{go_on_trees}
 use Rattle.thread.specs.Machines.{Thread}
 use Rattle.protocol_ledger.specs.declared.opening.Life.{Life}
 use Rattle.protocol_ledger.specs.declared.opening.Life.TheVariants as life
@@ -31,9 +34,16 @@ loop-machine-preserved c =
     (slice_get-map proc_of c.args.processes.now n ∙ ap (option_map proc_of) process)
     lived
     there
-    (subst (λ (t : ℕ). GoesOnFrom (proc_of c.index-processes-thread.result) t was c.in-Some.machine c.in-Some-2.next.life c.in-Some-2.next.first c.in-Some-2.next.ended) thread (subst (λ (o : Option NextThread). IfSome o (λ n. GoesOnFrom (proc_of c.index-processes-thread.result) c.len-thread.result was c.in-Some.machine n.life n.first n.ended)) c.in-Some-2.is c.in_ok-next.ensures)) in
+    (subst (λ (t : ℕ). GoesOnFrom (proc_of c.index-processes-thread.result) t was c.in-Some.machine c.in-Some-2.next.life c.in-Some-2.next.first c.in-Some-2.next.ended) thread (subst (λ (o : Option NextThread). IfSome o (λ n. GoesOnFrom (proc_of c.index-processes-thread.result) c.len-thread.result was c.in-Some.machine n.life n.first n.ended)) c.in-Some-2.is c.in_ok-next.ensures.goes)) in
     record {
       whole = whole;
+      trees = λ run.
+          let tree = subst (λ (o : Option NextThread). IfSome o (λ n. IfSome c.in-Some.machine (λ m. m.body ≡ tree_of c.index-processes-thread.result)
+          → IfSome n.first (λ s. s.machine.value.body ≡ tree_of c.index-processes-thread.result) × IfSome n.ended (λ m. m.body ≡ tree_of c.index-processes-thread.result))) c.in-Some-2.is c.in_ok-next.ensures.tree in
+          subst (λ (z : List (Option Suspended) × List (Option Thread)). RunTrees (map tree_of c.args.processes.now) (map machine_in z.0) × RunTrees (map tree_of c.args.processes.now) z.1)
+          (λ j. (sym c.in_ok-push-2.ensures.items j, sym c.in_ok-push-3.ensures.items j))
+          (go_on_trees (map tree_of c.args.processes.now) c.args.machines.items c.loop-machine.first.items c.loop-machine.ended.items n (tree_of c.index-processes-thread.result) c.in-Some.machine c.in-Some-2.next.first c.in-Some-2.next.ended
+          i.goes.machines_are i.goes.ended_are (slice_get-map tree_of c.args.processes.now n ∙ ap (option_map tree_of) process) there run (i.trees run) tree);
       goes = subst (λ (z : ℕ × List (Life × ℕ) × List (Option Suspended) × List (Option Thread)). GoOnBelow ps lives c.args.machines.items z.0 z.1 z.2 z.3)
           (λ j. (sym (length-append c.loop-machine.yielded (c.in-Some.machine ∷ [])) j, sym c.in_ok-push.ensures.items j, sym c.in_ok-push-2.ensures.items j, sym c.in_ok-push-3.ensures.items j))
           goes;

@@ -1,7 +1,10 @@
 use Rattle.std.proofs.Common.{rules, ◌≡◌, ◌≤◌, ◌*◌, ◌∙◌, ℕ, List, [], Option, Some, ap, arith, get_or, length, map, refl, replicate, subst, sym}
 use Rattle.std.proofs.lemmas.List.{length-map}
 use Rattle.std.proofs.lemmas.Option.{slice_get-get_or}
-use Rattle.script_tree.specs.Processes.{Proc, proc_of}
+use Rattle.script_tree.specs.Processes.{Proc, proc_of, tree_of}
+use Rattle.script_tree.specs.declared.tree.Block.{Block as Tree}
+use Rattle.journal.specs.Concluding.{RunTrees}
+use Rattle.runtime_run.specs.Machines.{machine_in}
 use Rattle.script_tree.specs.Spawning.{AreSpawnedOnce}
 use Rattle.protocol.specs.Openings.{Opening}
 use Rattle.cell_table.specs.declared.view.Seen.{Seen}
@@ -27,9 +30,15 @@ use Rattle.runtime.specs.declared.season.Season.{Season}
 use Rattle.runtime_run.proofs.Ledgers.{tells_first}
 use Rattle.runtime.proofs.season.first_season.Goals as goal
 
-pub returns : goal.returns
+pub returns-clause-trees : goal.returns-clause-trees
+returns-clause-trees c =
+    let trees : List Tree = map tree_of c.processes-processes.result.now in
+    subst (λ (ts : List Tree). RunTrees ts (map machine_in c.in_ok-cells.cells.first) × RunTrees ts c.in_ok-resting.resting.items) c.processes-processes.ensures.trees
+    (subst (λ (l : List (Option Suspended)). RunTrees trees (map machine_in l)) (sym c.in_ok-cells.ensures.first) c.in_ok-first.ensures.trees, λ t m is. absurd (c.in_ok-resting.ensures.1 t m is))
+
+pub returns-clause-season : goal.returns-clause-season
 unfolding table_of_first
-returns c =
+returns-clause-season c =
     let ps : List Proc = map proc_of c.processes-processes.result.now in
     let empty : c.new.result.items ≡ [] = (search rules) in
     let value = c.processes-processes.ensures.value in

@@ -1,7 +1,12 @@
 use Rattle.std.proofs.Common.{rules, ◌≡◌, ◌≤◌, ◌+◌, ◌*◌, ◌∙◌, ℕ, List, Option, IfSome, ap, get_or, length, map, refl, subst, sym, arith}
 use Rattle.std.proofs.lemmas.List.{length-map}
 use Rattle.std.proofs.lemmas.Option.{slice_get-get_or}
-use Rattle.script_tree.specs.Processes.{Proc, proc_of}
+use Rattle.script_tree.specs.Processes.{Proc, proc_of, tree_of}
+use Rattle.script_tree.specs.declared.tree.Block.{Block as Tree}
+use Rattle.script.specs.Lines.{trees_of_script}
+use Rattle.journal.specs.Concluding.{RunTrees}
+use Rattle.runtime_run.specs.Machines.{machine_in}
+use Rattle.runtime.proofs.Keeping.{kept_trees}
 use Rattle.script.specs.Scripts.{script_of}
 use Rattle.protocol_ledger.specs.declared.opening.Life.{Life}
 use Rattle.protocol.specs.Openings.{Opening, greatest}
@@ -19,8 +24,8 @@ use Rattle.runtime.proofs.LeadingOn.{ended_gone, from_size, given_next, kept_gon
 use Rattle.runtime.proofs.season.next_season.Goals as goal
 
 -- so far the run is one in the rows of these seasons
-pub returns-in_default : goal.returns-in_default
-returns-in_default c =
+pub returns-in_default-clause-leads : goal.returns-in_default-clause-leads
+returns-in_default-clause-leads c =
     let ps : List Proc = (script_of c.args.script.now).processes in
     let x = c.args.closed in (
       subst (λ (n : ℕ). IsRun ps ((x.done + 1) * n) x.journal.items) c.requires.same (run_is ps x c.requires.closed),
@@ -45,7 +50,7 @@ next_short-requires-clause-machines c =
     let machines = x.machines.items in
     let left = c.requires.closed.left in
     let caught = c.requires.caught in
-    let told = subst (λ (o : Option NextTable). IfSome o (λ n. GoOnBelow (map proc_of c.processes.result.now) c.deref.result.now machines (length c.processes.result.now) n.threads.items n.first.items n.ended.items)) c.in-Some.is c.in_ok-table.ensures in
+    let told = subst (λ (o : Option NextTable). IfSome o (λ n. GoOnBelow (map proc_of c.processes.result.now) c.deref.result.now machines (length c.processes.result.now) n.threads.items n.first.items n.ended.items)) c.in-Some.is c.in_ok-table.ensures.go in
     let goes : GoOnBelow ps x.opening.threads.items machines (length ps) c.in-Some.table.threads.items c.in-Some.table.first.items c.in-Some.table.ended.items =
     subst (λ (z : List Proc × List (Life × ℕ) × ℕ). GoOnBelow z.0 z.1 machines z.2 c.in-Some.table.threads.items c.in-Some.table.first.items c.in-Some.table.ended.items)
     (λ i. (c.processes.ensures.value i, c.deref.ensures.value i, (sym (length-map c.processes.result.now proc_of) ∙ ap (λ (qs : List Proc). length qs) c.processes.ensures.value) i)) told in
@@ -58,14 +63,24 @@ next_short-requires-clause-opening c =
     let machines = x.machines.items in
     let left = c.requires.closed.left in
     let caught = c.requires.caught in
-    let told = subst (λ (o : Option NextTable). IfSome o (λ n. GoOnBelow (map proc_of c.processes.result.now) c.deref.result.now machines (length c.processes.result.now) n.threads.items n.first.items n.ended.items)) c.in-Some.is c.in_ok-table.ensures in
+    let told = subst (λ (o : Option NextTable). IfSome o (λ n. GoOnBelow (map proc_of c.processes.result.now) c.deref.result.now machines (length c.processes.result.now) n.threads.items n.first.items n.ended.items)) c.in-Some.is c.in_ok-table.ensures.go in
     let goes : GoOnBelow ps x.opening.threads.items machines (length ps) c.in-Some.table.threads.items c.in-Some.table.first.items c.in-Some.table.ended.items =
     subst (λ (z : List Proc × List (Life × ℕ) × ℕ). GoOnBelow z.0 z.1 machines z.2 c.in-Some.table.threads.items c.in-Some.table.first.items c.in-Some.table.ended.items)
     (λ i. (c.processes.ensures.value i, c.deref.ensures.value i, (sym (length-map c.processes.result.now proc_of) ∙ ap (λ (qs : List Proc). length qs) c.processes.ensures.value) i)) told in
     opens_next ps x c.requires.closed machines left caught c.in-Some.table.threads.items c.in-Some.table.first.items c.in-Some.table.ended.items goes c.args.rows c.requires.rows.1 c.requires.few
 
-pub returns : goal.returns
-returns c =
+pub returns-clause-trees : goal.returns-clause-trees
+returns-clause-trees c runs =
+    let plain : List Tree = map tree_of c.processes.result.now in
+    let trees : List Tree = trees_of_script c.args.script.now in
+    let table = c.in-Some.table in
+    let same : plain ≡ trees = c.processes.ensures.trees in
+    let told = subst (λ (o : Option NextTable). IfSome o (λ n. RunTrees plain c.args.closed.machines.items → RunTrees plain (map machine_in n.first.items) × RunTrees plain n.ended.items)) c.in-Some.is c.in_ok-table.ensures.trees in
+    let both = subst (λ (ts : List Tree). RunTrees ts (map machine_in table.first.items) × RunTrees ts table.ended.items) same (told (subst (λ (ts : List Tree). RunTrees ts c.args.closed.machines.items) (sym same) runs.0)) in
+    (subst (λ (l : List (Option Suspended)). RunTrees trees (map machine_in l)) (sym c.in_ok-cells.ensures.first) both.0, kept_trees trees c.args.closed.resting.items table.ended.items c.keep_all.new.kept.items c.keep_all.ensures runs.1 both.1)
+
+pub returns-clause-leads : goal.returns-clause-leads
+returns-clause-leads c =
     let ps : List Proc = (script_of c.args.script.now).processes in
     let x = c.args.closed in
     let closed = c.requires.closed in
@@ -75,7 +90,7 @@ returns c =
     let lives = c.in-Some.table.threads.items in
     let first = c.in-Some.table.first.items in
     let ended = c.in-Some.table.ended.items in
-    let told = subst (λ (o : Option NextTable). IfSome o (λ n. GoOnBelow (map proc_of c.processes.result.now) c.deref.result.now machines (length c.processes.result.now) n.threads.items n.first.items n.ended.items)) c.in-Some.is c.in_ok-table.ensures in
+    let told = subst (λ (o : Option NextTable). IfSome o (λ n. GoOnBelow (map proc_of c.processes.result.now) c.deref.result.now machines (length c.processes.result.now) n.threads.items n.first.items n.ended.items)) c.in-Some.is c.in_ok-table.ensures.go in
     let goes : GoOnBelow ps x.opening.threads.items machines (length ps) lives first ended =
     subst (λ (z : List Proc × List (Life × ℕ) × ℕ). GoOnBelow z.0 z.1 machines z.2 lives first ended)
     (λ i. (c.processes.ensures.value i, c.deref.ensures.value i, (sym (length-map c.processes.result.now proc_of) ∙ ap (λ (qs : List Proc). length qs) c.processes.ensures.value) i)) told in

@@ -7,13 +7,18 @@ use Rattle.runtime.specs.Played.{ArePlayed}
 use Rattle.runtime.specs.Season.{IsLedgerOver}
 use Rattle.runtime.proofs.LeadingOn.{goes_on, same-journal, stamps_on}
 use Rattle.script.specs.Scripts.{script_of}
+use Rattle.runtime_run.proofs.Trees.{left_trees}
 use Rattle.runtime.proofs.season.play_season.Goals as goal
 
 pub opening_by-requires : goal.opening_by-requires
 opening_by-requires g c = λ d. subst (λ (commits : List Commit). Contains commits d ↔ HasCommit c.in_ok-ledger.ledger d) (sym c.deref.ensures.value) (c.in_ok-commits.ensures.members d)
 
-pub returns : goal.returns
-returns g c =
+pub returns-clause-trees : goal.returns-clause-trees
+returns-clause-trees g c trees runs =
+    (left_trees trees c.args.season.cells.first c.in_ok-ledger.ledger c.in_ok-ledger.machines.items c.in_ok-ledger.ensures.machines runs.0, runs.1)
+
+pub returns-clause-closed : goal.returns-clause-closed
+returns-clause-closed g c =
     let ps = (script_of c.args.script.now).processes in
     let season = c.requires.season in
     let cells = c.args.season.cells in

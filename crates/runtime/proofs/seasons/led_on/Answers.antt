@@ -1,11 +1,15 @@
-use Rattle.std.proofs.Common.{List, Option, subst, sym}
+use Rattle.std.proofs.Common.{◌≡◌, List, Option, subst, sym, ◌∙◌}
+use Rattle.std.proofs.lemmas.Result.{IfOk-weaker}
 use Rattle.script_tree.specs.Processes.{Proc}
+use Rattle.script_tree.specs.declared.tree.Block.{Block as Tree}
+use Rattle.script.specs.Lines.{trees_of_script}
+use Rattle.journal_replay.specs.Lines.{trees_in}
 use Rattle.script.specs.Scripts.{script_of}
 use Rattle.journal_order.specs.Behind.{TellsRun}
 use Rattle.journal_replay.specs.Runs.{IsRun}
-use Rattle.journal.specs.Concluding.{AreGone}
+use Rattle.journal.specs.Concluding.{AreGone, RunTrees}
 use Rattle.protocol.specs.Openings.{opening_of}
-use Rattle.runtime.specs.Season.{EndsRun}
+use Rattle.runtime.specs.Season.{EndRuns, EndsRun}
 use Rattle.runtime.specs.declared.season.Standing.{Standing}
 use Rattle.runtime.proofs.LeadingOn.{ends_run}
 use Rattle.runtime.proofs.seasons.led_on.Goals as goal
@@ -29,3 +33,13 @@ pub conclude_run-requires-clause-machines : goal.conclude_run-requires-clause-ma
 conclude_run-requires-clause-machines c =
     let ends = subst (λ (s : Option Standing). EndsRun (script_of c.args.script.now).processes c.args.rows c.args.commits.items s) c.in-Some.is c.requires.run in
     subst (λ (ps : List Proc). AreGone ps c.args.commits.items c.in-Some.field-0.machines.items) (sym c.processes-processes.ensures.value) ends.2
+
+pub returns-in_default-clause-trees : goal.returns-in_default-clause-trees
+returns-in_default-clause-trees c = IfOk-weaker c.retrace_run.result _ _ (λ r same runs. same ∙ c.processes-processes.ensures.trees) c.retrace_run.ensures.trees
+
+pub returns-clause-trees : goal.returns-clause-trees
+returns-clause-trees c =
+    IfOk-weaker c.conclude_run.result _ _
+    (λ r same runs.
+    subst (λ (ts : List Tree). RunTrees ts c.in-Some.field-0.machines.items → trees_in r.state ≡ ts) c.processes-processes.ensures.trees same
+    (subst (λ (s : Option Standing). EndRuns (trees_of_script c.args.script.now) s) c.in-Some.is runs)) c.conclude_run.ensures.trees

@@ -42,5 +42,13 @@ returns-in_err-check_limits-clause-needed g c is =
 pub returns-in-Ok-Some-clause-needed : goal.returns-in-Ok-Some-clause-needed
 returns-in-Ok-Some-clause-needed g c is =
     let rows : c.args.seasons * c.from.result ≡ c.args.seasons * c.args.rows = cc in
-    let ended = rw c.in-Ok-Some.field-0-is at c.in-Ok-Some.ensures in
+    let ended = rw c.in-Ok-Some.field-0-is at c.in-Ok-Some.ensures.ends in
     refused (script_of c.args.script.now).processes c.args.rows c.args.seasons _ c.in-Ok-Some.commits.items c.concluded-in-Ok-Some.result rows ended.1 c.concluded-in-Ok-Some.ensures.refuses is
+
+pub returns-then-is_empty-clause-trees : goal.returns-then-is_empty-clause-trees
+returns-then-is_empty-clause-trees g c = IfOk-weaker c.concluded.result _ _ (λ r same. same tt) c.concluded.ensures.trees
+
+pub returns-in-Ok-Some-clause-trees : goal.returns-in-Ok-Some-clause-trees
+returns-in-Ok-Some-clause-trees g c =
+    let runs = rw c.in-Ok-Some.field-0-is at c.in-Ok-Some.ensures.trees in
+    IfOk-weaker c.concluded-in-Ok-Some.result _ _ (λ r same. same runs) c.concluded-in-Ok-Some.ensures.trees
