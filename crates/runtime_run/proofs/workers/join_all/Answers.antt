@@ -7,7 +7,7 @@ use Rattle.cell.specs.Calls.{GridOf}
 use Rattle.runtime_worker.specs.Workers.{IsLeftOf}
 use Rattle.runtime_worker.specs.declared.worker.Left.{Left}
 use Rattle.runtime_worker.specs.declared.worker.Worked.{Worked}
-use Rattle.runtime.specs.declared.workers.GivesBack.{GivesBack}
+use Rattle.runtime_run.specs.declared.workers.GivesBack.{GivesBack}
 use Rattle.cell.proofs.Lists.{all_is, all_head, all_rest, all_pushed}
 use Rattle.runtime_run.proofs.workers.join_all.Goals as goal
 

@@ -5,7 +5,7 @@ use Rattle.std.specs.declared.thread.PromisedHandle.{PromisedHandle}
 use Rattle.runtime_worker.specs.Workers.{IsNewWorkerOf}
 use Rattle.runtime_worker.specs.declared.worker.Worker.{Worker}
 use Rattle.runtime_worker.specs.declared.worker.Worked.{Worked}
-use Rattle.runtime.specs.declared.workers.GivesBack.{GivesBack}
+use Rattle.runtime_run.specs.declared.workers.GivesBack.{GivesBack}
 use Rattle.cell.proofs.Lists.{all_is, all_none, all_rest, all_pushed}
 use Rattle.runtime_run.proofs.workers.start_all.Goals as goal
 
