@@ -1,11 +1,9 @@
 //! The reason for which commits are no run.
 
-ghost use Rattle.std.specs.Prelude.{◌≡◌, ◌<◌, ◌≤◌, ℕ, IfOk, Some, length, map, slice_get};
-ghost use Rattle.protocol_values.specs.Commits.{most_rows};
+ghost use Rattle.std.specs.Prelude.{◌≡◌, ◌<◌, ℕ, List, Some, slice_get, take};
 ghost use Rattle.protocol_values.specs.declared.Commit.{Commit as Made};
-ghost use Rattle.script_tree.specs.Processes.{proc_of};
-ghost use Rattle.script_tree.specs.Spawning.{IsPlaced};
-ghost use Rattle.journal_replay.specs.Replays.{thread_count};
+ghost use Rattle.script_tree.specs.Processes.{Proc};
+ghost use Rattle.journal_replay.specs.Replays.{StandsAfter, thread_count};
 ghost use Rattle.journal_replay.specs.Runs.{BreaksOffAt};
 ghost use Rattle.journal_replay.specs.Starting.{HasThread};
 ghost use Rattle.pcml_answers.specs.Reasons.{IsReasonAt};
@@ -13,10 +11,8 @@ ghost use Rattle.pcml_answers.specs.Telling.{TellsLegal, TellsNack, TellsEnd};
 
 use crate::reason::Reason;
 use crate::unlawful_row::row_reason;
-use journal_replay::{State, retrace};
+use journal_replay::State;
 use protocol_values::{Base, Cause, Commit, NackName};
-use script_tree::Proc;
-use std::alloc::{AllocError, Global};
 
 /// Why no commit may stand for the nack, if none may.
 fn nack_reason(state: &State, nack: NackName) -> Option<Reason>
@@ -75,31 +71,20 @@ fn legal_reason(state: &State, earlier: &[Commit], commit: &Commit) -> Option<Re
     }
 }
 
-/// Why the commit with this number may not come next: the first so many are a run of the processes, of so many rows
-/// each, 1 to `MOST_ROWS`, and with it they are none.
-pub fn find_reason(
-    alloc: Global,
-    processes: &[Proc],
-    rows: u32,
-    commits: &[Commit],
-    index: usize,
-) -> Result<Reason, AllocError>
-    requires few { length processes.now ≤ 64 }
-    requires rows { rows ≤ most_rows }
-    requires placed { IsPlaced (map proc_of processes.now) }
-    requires threads { (c : Made) (t : ℕ) → slice_get commits.now index ≡ Some c → HasThread c t → t < length processes.now }
-    requires breaks { BreaksOffAt (map proc_of processes.now) rows commits.now index }
-    ensures { IfOk result (IsReasonAt (map proc_of processes.now) rows commits.now index) }
+/// Why the commit with this number may not come next: the state stands where those before it lead, which are a run, and
+/// with it they are none.
+pub fn find_reason(state: &State, commits: &[Commit], index: usize) -> Reason
+    requires threads { (c : Made) (t : ℕ) → slice_get commits.now index ≡ Some c → HasThread c t → t < thread_count state.now }
+    requires breaks { (ps : List Proc) × (rows : ℕ) × StandsAfter ps rows (take index commits.now) state.now × BreaksOffAt ps rows commits.now index }
+    ensures { (ps : List Proc) (rows : ℕ) → StandsAfter ps rows (take index commits.now) state.now → BreaksOffAt ps rows commits.now index → IsReasonAt ps rows commits.now index result }
 {
     let earlier = &commits[..index];
     let commit = &commits[index];
-    let state = retrace(alloc, processes, rows, earlier)?;
-    if let Some(reason) = legal_reason(&state, earlier, commit) {
-        return Ok(reason);
+    if let Some(reason) = legal_reason(state, earlier, commit) {
+        return reason;
     }
     let Some(next) = state.stamped(commit) else {
         unreachable!()
     };
-    let (stamp, _) = next.order();
-    Ok(Reason::Stamp(stamp))
+    Reason::Stamp(next.stamp())
 }

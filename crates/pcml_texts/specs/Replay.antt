@@ -1,5 +1,5 @@
 -- What replaying a journal prints.
-use Rattle.std.specs.Prelude.{◌≡◌, ℕ, ◌+◌, Bool, true, false, List, [], ◌∷◌, ◌++◌, length, codes, Some, slice_get}
+use Rattle.std.specs.Prelude.{◌≡◌, ℕ, ◌+◌, Bool, true, false, List, [], ◌∷◌, ◌++◌, length, codes, Some, slice_get, take}
 use Rattle.std.specs.Fmt.{decimal}
 use Rattle.std.specs.String.{string_bytes}
 use Rattle.protocol_values.specs.declared.Commit.{Commit}
@@ -12,6 +12,7 @@ use Rattle.journal_replay.specs.Replays.{StandsAfter, TellsEnd, TellsOutput, thr
 use Rattle.journal_replay.specs.Runs.{BreaksOffAt, Config, IsLegal, IsMaximal, IsRun, config_of}
 use Rattle.journal_replay.specs.declared.state.State.{State}
 use Rattle.pcml_answers.specs.Standings.{Standing, StandAs, process_lines}
+use Rattle.pcml_texts.specs.declared.reach.Broken.{Broken}
 use Rattle.pcml_texts.specs.declared.reach.Reached.{Reached}
 use Rattle.pcml_texts.specs.declared.reach.Reached.TheVariants.{Run, NoRun}
 use Rattle.pcml_texts.specs.declared.replay.Judged.{Judged}
@@ -81,15 +82,19 @@ pub record LeadsTo (s : Script) (rows : ℕ) (bytes : List ℕ) (commits : List 
   pub spells : Spells s bytes commits
   pub stands : StandsAfter s.processes rows commits state
 
--- the bytes spell these commits, of which the first so many are a run, and with the next they are none; the text tells its line
-pub record Breaks (s : Script) (rows : ℕ) (bytes : List ℕ) (commits : List Commit) (index : ℕ) (text : List ℕ) : Type 0 where
-  pub spells : Spells s bytes commits
-  pub breaks : BreaksOffAt s.processes rows commits index
-  pub is : text ≡ unlawful_line (index + 1)
+-- of the commits the first so many are a run, which leads to the state, and with the next they are none; the text tells its line
+pub record IsBroken (ps : List Proc) (rows : ℕ) (b : Broken) : Type 0 where
+  pub stands : StandsAfter ps rows (take b.index b.commits.items) b.state
+  pub breaks : BreaksOffAt ps rows b.commits.items b.index
+  pub is : string_bytes b.text ≡ unlawful_line (b.index + 1)
+
+-- the bytes spell these commits
+abbrev pub Breaks : Script → ℕ → List ℕ → Broken → Type 0
+Breaks s rows bytes b = Spells s bytes b.commits.items × IsBroken s.processes rows b
 
 abbrev pub Reaches : Script → ℕ → List ℕ → Reached → Type 0
 Reaches s rows bytes (Run commits state) = LeadsTo s rows bytes commits.items state
-Reaches s rows bytes (NoRun commits index text) = Breaks s rows bytes commits.items index (string_bytes text)
+Reaches s rows bytes (NoRun broken) = Breaks s rows bytes broken
 
 abbrev pub TellsReplayed : Script → ℕ → List ℕ → Replayed → Type 0
 TellsReplayed s rows bytes (Lawful text) = IsReplayed s rows bytes text.items

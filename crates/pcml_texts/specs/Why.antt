@@ -22,7 +22,7 @@ use Rattle.pcml_texts.specs.declared.replay.Replayed.TheVariants.{Lawful, Unlawf
 -- the state of a journal that is a run runs these trees
 abbrev pub RunsTrees : List Tree → Reached → Type 0
 RunsTrees trees (Run commits state) = trees_in state ≡ trees
-RunsTrees trees (NoRun commits index text) = ⊤
+RunsTrees trees (NoRun broken) = ⊤
 
 -- The commits are a run of the script's processes, of so many rows each, which a state stands after that runs these trees. The told
 -- text says where the processes stand, at the lines of the trees.

@@ -100,6 +100,6 @@ pub fn chart_journal(
             let text = drawn(alloc, script, &state, &own, commits.as_slice(), drawing)?;
             Ok(text)
         }
-        Reached::NoRun { index, .. } => Err(ChartFault::NoRun(index + 1)),
+        Reached::NoRun(broken) => Err(ChartFault::NoRun(broken.index + 1)),
     }
 }

@@ -30,6 +30,6 @@ pub fn next_journal(
             let text = next_text(alloc, script, &state)?;
             Ok(Replayed::Lawful(text))
         }
-        Reached::NoRun { text, .. } => Ok(Replayed::Unlawful(text.into_bytes())),
+        Reached::NoRun(broken) => Ok(Replayed::Unlawful(broken.text.into_bytes())),
     }
 }

@@ -9,7 +9,7 @@ ghost use Rattle.journal_text.specs.Answers.{Explains};
 ghost use Rattle.pcml_texts.specs.Replay.{Reaches, unlawful_line};
 ghost use Rattle.pcml_texts.specs.Why.{RunsTrees};
 
-use journal_replay::{ReplayFault, State, replay};
+use journal_replay::{State, replay_lawful};
 use journal_text::{JournalFault, read_journal};
 use protocol_values::Commit;
 use script::Script;
@@ -20,13 +20,18 @@ use std::alloc::{AllocError, Global};
 pub(crate) enum Reached {
     /// It is a run, of these commits, and leads to that state.
     Run(Vec<Commit>, State),
-    /// It is no run: the first commits are one, and with the commit of this number, from 0, they are none. The text
-    /// tells the line of that commit.
-    NoRun {
-        commits: Vec<Commit>,
-        index: usize,
-        text: String,
-    },
+    /// It is no run.
+    NoRun(Broken),
+}
+
+/// A journal that is no run: its first commits are one, and lead to the state, and with the commit of this number, from
+/// 0, they are none. The text tells the line of that commit.
+#[derive(Drop)]
+pub(crate) struct Broken {
+    pub(crate) commits: Vec<Commit>,
+    pub(crate) state: State,
+    pub(crate) index: usize,
+    pub(crate) text: String,
 }
 
 fn unlawful_line(alloc: Global, line: usize) -> Result<String, AllocError>
@@ -48,16 +53,15 @@ pub(crate) fn reach(
     ensures fault { IfErr result (Explains (script_of script.now) journal.now) }
 {
     let commits = read_journal(alloc, script, journal)?;
-    match replay(alloc, script.processes(), rows, commits.as_slice()) {
-        Ok(state) => Ok(Reached::Run(commits, state)),
-        Err(ReplayFault::Unlawful(index)) => {
-            let text = unlawful_line(alloc, index + 1)?;
-            Ok(Reached::NoRun {
-                commits,
-                index,
-                text,
-            })
-        }
-        Err(ReplayFault::Memory) => Err(JournalFault::Memory),
+    let (state, index) = replay_lawful(alloc, script.processes(), rows, commits.as_slice())?;
+    if index >= commits.len() {
+        return Ok(Reached::Run(commits, state));
     }
+    let text = unlawful_line(alloc, index + 1)?;
+    Ok(Reached::NoRun(Broken {
+        commits,
+        state,
+        index,
+        text,
+    }))
 }

@@ -101,9 +101,9 @@ pub fn judge_journal(
             let text = state_text(alloc, script, &state, commits.len(), is_maximal)?;
             Ok(Judged::Lawful { text, is_maximal })
         }
-        Reached::NoRun { index, text, .. } => Ok(Judged::Unlawful {
-            text: text.into_bytes(),
-            line: index + 1,
+        Reached::NoRun(broken) => Ok(Judged::Unlawful {
+            line: broken.index + 1,
+            text: broken.text.into_bytes(),
         }),
     }
 }

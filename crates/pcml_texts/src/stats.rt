@@ -30,6 +30,6 @@ pub fn stats_journal(
             let text = stats_text(alloc, script, commits.as_slice())?;
             Ok(Replayed::Lawful(text.into_bytes()))
         }
-        Reached::NoRun { text, .. } => Ok(Replayed::Unlawful(text.into_bytes())),
+        Reached::NoRun(broken) => Ok(Replayed::Unlawful(broken.text.into_bytes())),
     }
 }

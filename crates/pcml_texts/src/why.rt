@@ -8,14 +8,13 @@ ghost use Rattle.script.specs.Lines.{trees_of_script};
 ghost use Rattle.script.specs.Scripts.{script_of};
 ghost use Rattle.journal_replay.specs.Lines.{trees_in};
 ghost use Rattle.journal_replay.specs.Replays.{StandsAfter};
-ghost use Rattle.journal_replay.specs.Runs.{BreaksOffAt};
 ghost use Rattle.journal_text.specs.Answers.{Explains};
 ghost use Rattle.journal_text.specs.Journals.{HasLine};
 ghost use Rattle.journal_text.specs.Names.{names_of};
-ghost use Rattle.pcml_texts.specs.Replay.{unlawful_line};
+ghost use Rattle.pcml_texts.specs.Replay.{IsBroken};
 ghost use Rattle.pcml_texts.specs.Why.{IsWhyOf, TellsReason, TellsWhy};
 
-use crate::reach::{Reached, reach};
+use crate::reach::{Broken, Reached, reach};
 use crate::replay::Replayed;
 use journal_replay::State;
 use journal_text::JournalFault;
@@ -29,19 +28,15 @@ use std::alloc::{AllocError, Global};
 fn reason_text(
     alloc: Global,
     script: &Script,
-    commits: &[Commit],
-    index: usize,
-    line: String,
+    broken: Broken,
     rows: u32,
 ) -> Result<Vec<u8>, AllocError>
-    requires rows { rows ≤ most_rows }
-    requires lines { AllByRecursion (HasLine (names_of (script_of script.now))) commits.now }
-    requires breaks { BreaksOffAt (script_of script.now).processes rows commits.now index }
-    requires line { string_bytes line ≡ unlawful_line (index + 1) }
-    ensures { IfOk result (λ text. TellsReason (script_of script.now) rows commits.now index text.items) }
+    requires lines { AllByRecursion (HasLine (names_of (script_of script.now))) broken.commits.items }
+    requires breaks { IsBroken (script_of script.now).processes rows broken }
+    ensures { IfOk result (λ text. TellsReason (script_of script.now) rows broken.commits.items broken.index text.items) }
 {
-    let reason = find_reason(alloc, script.processes(), rows, commits, index)?;
-    let mut text = line;
+    let reason = find_reason(&broken.state, &broken.commits, broken.index);
+    let mut text = broken.text;
     push_reason(&mut text, script, rows, reason)?;
     Ok(text.into_bytes())
 }
@@ -80,12 +75,8 @@ pub fn why_journal(
             let told = why_standing(alloc, script, text, &commits, &state, rows)?;
             Ok(Replayed::Lawful(told))
         }
-        Reached::NoRun {
-            commits,
-            index,
-            text,
-        } => {
-            let told = reason_text(alloc, script, &commits, index, text, rows)?;
+        Reached::NoRun(broken) => {
+            let told = reason_text(alloc, script, broken, rows)?;
             Ok(Replayed::Unlawful(told))
         }
     }

@@ -27,14 +27,14 @@ returns-in-Run-clause-judged c =
 pub returns-clause-judged : goal.returns-clause-judged
 returns-clause-judged c =
     let s = script_of c.args.script.now in
-    let broken : Breaks s c.args.rows c.args.journal.now c.in-NoRun.commits.items c.in-NoRun.index (string_bytes c.in-NoRun.text) =
+    let broken : Breaks s c.args.rows c.args.journal.now c.in-NoRun.broken =
     subst (λ (r : Reached). Reaches s c.args.rows c.args.journal.now r) c.in-NoRun.is c.in_ok-commits.ensures.reached in (
       record {
-        commits = c.in-NoRun.commits.items;
-        spells = broken.spells;
-        index = c.in-NoRun.index;
-        breaks = broken.breaks;
-        is = (λ i. (c.into_bytes.ensures.value i).items) ∙ broken.is;
+        commits = c.in-NoRun.broken.commits.items;
+        spells = broken.0;
+        index = c.in-NoRun.broken.index;
+        breaks = broken.1.breaks;
+        is = (λ i. (c.into_bytes.ensures.value i).items) ∙ broken.1.is;
       },
       refl,
     )
