@@ -175,50 +175,99 @@ fn add_room(
     Ok(())
 }
 
-/// Puts the entry into the room of this number.
-pub(crate) fn put_into<R: Wait, M: Resident>(
-    rt: &R,
-    cells: &Cells<M>,
-    pass: &mut Pass<M>,
-    rooms: &[Room],
-    lanes: &mut RoomsPass,
-    at: usize,
-    entry: WaitingOffer,
-) -> Result<(), AllocError>
-    requires cells { IsPassOf cells.now pass.old }
-    requires lanes { Serves rooms.now lanes.old.passes.items × (at < length rooms.now) }
-    ensures here { IsPassOf cells.now pass.new }
-    ensures grows { Grows pass.old.seen pass.new.seen }
-    ensures looks { OnlyLooks pass.old pass.new }
-    ensures lanes { Serves rooms.now lanes.new.passes.items }
-    ensures more { EachPutsOn lanes.old.passes.items lanes.new.passes.items }
-    ensures put { IfOk result (λ _. PutAt at entry lanes.old.passes.items lanes.new.passes.items) }
-{
-    sweep_if_long(rt, cells, pass, rooms, lanes, at)?;
-    put_one(rt, rooms, lanes, at, entry)
+/// What one goes through the rooms with: the runtime, the table, and all rooms.
+#[derive(Drop)]
+pub(crate) struct Rooms<'a, R, M: Resident> {
+    pub(crate) rt: &'a R,
+    pub(crate) cells: &'a Cells<M>,
+    pub(crate) rooms: &'a [Room],
 }
 
-/// Removes the entries of committed rows from the room's lane, where that has grown long.
-fn sweep_if_long<R: Wait, M: Resident>(
-    rt: &R,
-    cells: &Cells<M>,
-    pass: &mut Pass<M>,
-    rooms: &[Room],
-    lanes: &mut RoomsPass,
-    at: usize,
-) -> Result<(), AllocError>
-    requires cells { IsPassOf cells.now pass.old }
-    requires lanes { Serves rooms.now lanes.old.passes.items × (at < length rooms.now) }
-    ensures here { IsPassOf cells.now pass.new }
-    ensures grows { Grows pass.old.seen pass.new.seen }
-    ensures looks { OnlyLooks pass.old pass.new }
-    ensures lanes { Serves rooms.now lanes.new.passes.items }
-    ensures more { EachPutsOn lanes.old.passes.items lanes.new.passes.items }
-{
-    if !is_long(rt, rooms, lanes, at) {
-        return Ok(());
+impl<R: Wait, M: Resident> Rooms<'_, R, M> {
+    /// Puts the entry into the room of this number.
+    pub(crate) fn put_into(
+        &self,
+        pass: &mut Pass<M>,
+        lanes: &mut RoomsPass,
+        at: usize,
+        entry: WaitingOffer,
+    ) -> Result<(), AllocError>
+        requires cells { IsPassOf self.now.cells.now pass.old }
+        requires lanes { Serves self.now.rooms.now lanes.old.passes.items × (at < length self.now.rooms.now) }
+        ensures here { IsPassOf self.now.cells.now pass.new }
+        ensures grows { Grows pass.old.seen pass.new.seen }
+        ensures looks { OnlyLooks pass.old pass.new }
+        ensures lanes { Serves self.now.rooms.now lanes.new.passes.items }
+        ensures more { EachPutsOn lanes.old.passes.items lanes.new.passes.items }
+        ensures put { IfOk result (λ _. PutAt at entry lanes.old.passes.items lanes.new.passes.items) }
+    {
+        self.sweep_if_long(pass, lanes, at)?;
+        put_one(self.rt, self.rooms, lanes, at, entry)
     }
-    sweep(rt, cells, pass, rooms, lanes, at)
+
+    /// Removes the entries of committed rows from the room's lane, where that has grown long.
+    fn sweep_if_long(
+        &self,
+        pass: &mut Pass<M>,
+        lanes: &mut RoomsPass,
+        at: usize,
+    ) -> Result<(), AllocError>
+        requires cells { IsPassOf self.now.cells.now pass.old }
+        requires lanes { Serves self.now.rooms.now lanes.old.passes.items × (at < length self.now.rooms.now) }
+        ensures here { IsPassOf self.now.cells.now pass.new }
+        ensures grows { Grows pass.old.seen pass.new.seen }
+        ensures looks { OnlyLooks pass.old pass.new }
+        ensures lanes { Serves self.now.rooms.now lanes.new.passes.items }
+        ensures more { EachPutsOn lanes.old.passes.items lanes.new.passes.items }
+    {
+        if !is_long(self.rt, self.rooms, lanes, at) {
+            return Ok(());
+        }
+        self.sweep(pass, lanes, at)
+    }
+
+    /// Removes the entries of committed rows from the room's lane. The others stay in their order.
+    fn sweep(&self, pass: &mut Pass<M>, lanes: &mut RoomsPass, at: usize) -> Result<(), AllocError>
+        requires cells { IsPassOf self.now.cells.now pass.old }
+        requires lanes { Serves self.now.rooms.now lanes.old.passes.items × (at < length self.now.rooms.now) }
+        ensures here { IsPassOf self.now.cells.now pass.new }
+        ensures grows { Grows pass.old.seen pass.new.seen }
+        ensures looks { OnlyLooks pass.old pass.new }
+        ensures lanes { Serves self.now.rooms.now lanes.new.passes.items }
+        ensures more { EachPutsOn lanes.old.passes.items lanes.new.passes.items }
+    {
+        self.rooms[at].take_up();
+        let taken = take_all(self.rt, self.rooms, lanes, at);
+        lanes.in_hand.tidy(self.cells, pass);
+        self.rooms[at].note_left(lanes.in_hand.entries().len());
+        let put = self.put_back(pass, lanes, at);
+        self.rooms[at].give_back();
+        taken?;
+        put
+    }
+
+    /// Puts the entries in hand whose rows are not committed back into the room's lane, in their order. Without memory those
+    /// that are left are lost.
+    pub(crate) fn put_back(
+        &self,
+        pass: &mut Pass<M>,
+        lanes: &mut RoomsPass,
+        at: usize,
+    ) -> Result<(), AllocError>
+        requires cells { IsPassOf self.now.cells.now pass.old }
+        requires lanes { Serves self.now.rooms.now lanes.old.passes.items × (at < length self.now.rooms.now) }
+        ensures here { IsPassOf self.now.cells.now pass.new }
+        ensures grows { Grows pass.old.seen pass.new.seen }
+        ensures looks { OnlyLooks pass.old pass.new }
+        ensures lanes { Serves self.now.rooms.now lanes.new.passes.items }
+        ensures more { EachPutsOn lanes.old.passes.items lanes.new.passes.items }
+        ensures put { IfOk result (λ _. PutsBack self.now.cells.now pass.old.seen pass.new.seen at lanes.old lanes.new) }
+    {
+        lanes.in_hand.tidy(self.cells, pass);
+        let put = self.rooms[at].put_all(self.rt, &mut lanes.passes[at], lanes.in_hand.entries());
+        lanes.in_hand.clear();
+        put
+    }
 }
 
 /// Whether the room's lane is to be swept.
@@ -244,33 +293,6 @@ fn put_one<R: Wait>(
     ensures put { IfOk result (λ _. PutAt at entry lanes.old.passes.items lanes.new.passes.items) }
 {
     rooms[at].put(rt, &mut lanes.passes[at], entry)
-}
-
-/// Removes the entries of committed rows from the room's lane. The others stay in their order.
-fn sweep<R: Wait, M: Resident>(
-    rt: &R,
-    cells: &Cells<M>,
-    pass: &mut Pass<M>,
-    rooms: &[Room],
-    lanes: &mut RoomsPass,
-    at: usize,
-) -> Result<(), AllocError>
-    requires cells { IsPassOf cells.now pass.old }
-    requires lanes { Serves rooms.now lanes.old.passes.items × (at < length rooms.now) }
-    ensures here { IsPassOf cells.now pass.new }
-    ensures grows { Grows pass.old.seen pass.new.seen }
-    ensures looks { OnlyLooks pass.old pass.new }
-    ensures lanes { Serves rooms.now lanes.new.passes.items }
-    ensures more { EachPutsOn lanes.old.passes.items lanes.new.passes.items }
-{
-    rooms[at].take_up();
-    let taken = take_all(rt, rooms, lanes, at);
-    lanes.in_hand.tidy(cells, pass);
-    rooms[at].note_left(lanes.in_hand.entries().len());
-    let put = put_back(rt, cells, pass, rooms, lanes, at);
-    rooms[at].give_back();
-    taken?;
-    put
 }
 
 /// Takes all entries of the room's lane in hand.
@@ -335,29 +357,4 @@ pub(crate) fn length_of<R: Wait>(rt: &R, rooms: &[Room], lanes: &mut RoomsPass, 
 {
     let room = &rooms[at];
     room.lane.len(rt, &mut lanes.passes[at])
-}
-
-/// Puts the entries in hand whose rows are not committed back into the room's lane, in their order. Without memory those
-/// that are left are lost.
-pub(crate) fn put_back<R: Wait, M: Resident>(
-    rt: &R,
-    cells: &Cells<M>,
-    pass: &mut Pass<M>,
-    rooms: &[Room],
-    lanes: &mut RoomsPass,
-    at: usize,
-) -> Result<(), AllocError>
-    requires cells { IsPassOf cells.now pass.old }
-    requires lanes { Serves rooms.now lanes.old.passes.items × (at < length rooms.now) }
-    ensures here { IsPassOf cells.now pass.new }
-    ensures grows { Grows pass.old.seen pass.new.seen }
-    ensures looks { OnlyLooks pass.old pass.new }
-    ensures lanes { Serves rooms.now lanes.new.passes.items }
-    ensures more { EachPutsOn lanes.old.passes.items lanes.new.passes.items }
-    ensures put { IfOk result (λ _. PutsBack cells.now pass.old.seen pass.new.seen at lanes.old lanes.new) }
-{
-    lanes.in_hand.tidy(cells, pass);
-    let put = rooms[at].put_all(rt, &mut lanes.passes[at], lanes.in_hand.entries());
-    lanes.in_hand.clear();
-    put
 }

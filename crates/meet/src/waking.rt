@@ -8,11 +8,11 @@ ghost use Rattle.protocol_values.specs.declared.Base.TheVariants.{OnEnd, OnNack}
 ghost use Rattle.cell.specs.Calls.{IsPassOf, IsRowOf, KeepsResults, PassOf};
 ghost use Rattle.meet_scan.specs.Searches.{Grows};
 ghost use Rattle.meet_scan.specs.Steps.{OnlyLooks};
-ghost use Rattle.meet.specs.Rooms.{IsMeetPassOf, IsRoomsPassOf};
+ghost use Rattle.meet.specs.Rooms.{IsMeetPassOf, Serves};
 ghost use Rattle.meet.specs.Wakings.{GrantsEach, IsBaseOf, IsWoken, Wakes};
 
 use crate::meet::{Meet, MeetPass};
-use crate::rooms::{RoomsPass, is_still, put_back, take_from};
+use crate::rooms::{Rooms, RoomsPass, is_still, take_from};
 use cell::{Cells, Grant, Pass, Resident, StepGate};
 use meet_scan::saw_committed;
 use protocol_values::{Base, NackName, Row};
@@ -50,15 +50,12 @@ impl Meet {
         ensures same { lanes.new.scan ≡ lanes.old.scan }
     {
         let at = self.nack_room(nack);
-        self.wake_room(
+        let rooms = Rooms {
             rt,
-            alloc,
             cells,
-            pass,
-            &mut lanes.rooms,
-            at,
-            Base::OnNack(nack),
-        )
+            rooms: &self.rooms,
+        };
+        rooms.wake_room(alloc, pass, &mut lanes.rooms, at, Base::OnNack(nack))
     }
 
     /// Grants the rows that wait for the end of a thread, where the thread has ended, and names them. As `wake`.
@@ -85,53 +82,50 @@ impl Meet {
         ensures same { lanes.new.scan ≡ lanes.old.scan }
     {
         let at = self.end_room(thread);
-        self.wake_room(
+        let rooms = Rooms {
             rt,
-            alloc,
             cells,
-            pass,
-            &mut lanes.rooms,
-            at,
-            Base::OnEnd(thread),
-        )
+            rooms: &self.rooms,
+        };
+        rooms.wake_room(alloc, pass, &mut lanes.rooms, at, Base::OnEnd(thread))
     }
+}
 
+impl<R: Wait, M: Resident> Rooms<'_, R, M> {
     /// Grants the rows of the room that wait by this base event, where it lets them be committed alone.
-    fn wake_room<R: Wait, M: Resident>(
+    fn wake_room(
         &self,
-        rt: &R,
         alloc: Global,
-        cells: &Cells<M>,
         pass: &mut Pass<M>,
         lanes: &mut RoomsPass,
         at: Option<usize>,
         base: Base,
     ) -> Result<Vec<Row>, AllocError>
-        requires here { IsPassOf cells.now pass.old }
-        requires lanes { IsRoomsPassOf self.now lanes.old × IfSome at (λ n. n < length self.now.rooms.items) }
-        ensures here { IsPassOf cells.now pass.new }
+        requires here { IsPassOf self.now.cells.now pass.old }
+        requires lanes { Serves self.now.rooms.now lanes.old.passes.items × IfSome at (λ n. n < length self.now.rooms.now) }
+        ensures here { IsPassOf self.now.cells.now pass.new }
         ensures grows { Grows pass.old.seen pass.new.seen }
         ensures woken { IfOk result (λ rows. All (IsWoken pass.old.seen pass.new.seen base) rows.items) }
         ensures once { IfOk result (λ rows. AllPairs (λ a b. a ≢ b) rows.items) }
         ensures made { IfOk result (λ rows. GrantsEach rows.items pass.old.made pass.new.made) }
         ensures failed { IfErr result (λ _. (rows : List Row) × Wakes base pass.old pass.new rows) }
         ensures results { KeepsResults pass.old pass.new }
-        ensures lanes { IsRoomsPassOf self.now lanes.new }
+        ensures lanes { Serves self.now.rooms.now lanes.new.passes.items }
     {
         let mut woken = Vec::new(alloc);
         let Some(at) = at else {
             return Ok(woken);
         };
         let room = &self.rooms[at];
-        for _ in rt.forever() {
-            if is_still(&self.rooms, lanes, at) {
+        for _ in self.rt.forever() {
+            if is_still(self.rooms, lanes, at) {
                 return Ok(woken);
             }
             let returns = room.returns();
             room.take_up();
-            let each = self.wake_each(rt, cells, pass, lanes, at, base, &mut woken);
+            let each = self.wake_each(pass, lanes, at, base, &mut woken);
             let shared = room.was_shared(returns, 1);
-            let put = put_back(rt, cells, pass, &self.rooms, lanes, at);
+            let put = self.put_back(pass, lanes, at);
             room.give_back();
             put?;
             each?;
@@ -145,30 +139,28 @@ impl Meet {
 
     /// Takes the entries of the room's lane one after another, and grants those that wait by this base
     /// event, which join the list. The others are in hand then.
-    fn wake_each<R: Wait, M: Resident>(
+    fn wake_each(
         &self,
-        rt: &R,
-        cells: &Cells<M>,
         pass: &mut Pass<M>,
         lanes: &mut RoomsPass,
         at: usize,
         base: Base,
         woken: &mut Vec<Row>,
     ) -> Result<(), AllocError>
-        requires here { IsPassOf cells.now pass.old }
-        requires lanes { IsRoomsPassOf self.now lanes.old × (at < length self.now.rooms.items) }
-        ensures here { IsPassOf cells.now pass.new }
+        requires here { IsPassOf self.now.cells.now pass.old }
+        requires lanes { Serves self.now.rooms.now lanes.old.passes.items × (at < length self.now.rooms.now) }
+        ensures here { IsPassOf self.now.cells.now pass.new }
         ensures grows { Grows pass.old.seen pass.new.seen }
         ensures woken { IfOk result (λ _. (from : PassOf M) → Grows from.seen pass.old.seen → Wakes base from pass.old woken.old.items → Wakes base from pass.new woken.new.items) }
         ensures failed { IfErr result (λ _. (from : PassOf M) → Grows from.seen pass.old.seen → Wakes base from pass.old woken.old.items → (rows : List Row) × Wakes base from pass.new rows) }
         ensures results { KeepsResults pass.old pass.new }
-        ensures lanes { IsRoomsPassOf self.now lanes.new }
+        ensures lanes { Serves self.now.rooms.now lanes.new.passes.items }
     {
-        for _ in rt.forever() {
-            let Some(other) = take_from(rt, &self.rooms, lanes, at) else {
+        for _ in self.rt.forever() {
+            let Some(other) = take_from(self.rt, self.rooms, lanes, at) else {
                 return Ok(());
             };
-            if wake_entry(rt, cells, pass, base, other) {
+            if wake_entry(self.rt, self.cells, pass, base, other) {
                 woken.push(other.0)?;
             } else {
                 lanes.in_hand.add(other.0, other.1)?;
