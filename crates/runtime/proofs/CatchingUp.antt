@@ -12,7 +12,6 @@ use Rattle.protocol_values.specs.declared.Commit.TheVariants.{Pair, Alone}
 use Rattle.protocol_values.specs.declared.Message.{Message}
 use Rattle.protocol_values.specs.declared.Message.TheVariants.{Empty}
 use Rattle.protocol_values.specs.declared.Row.{Row}
-use Rattle.protocol_values.specs.declared.RowResult.{RowResult}
 use Rattle.script_tree.specs.Processes.{Proc}
 use Rattle.script_tree.specs.declared.tree.Block.{Block as Tree}
 use Rattle.journal.specs.Concluding.{RunTrees}
@@ -111,10 +110,6 @@ pub stopped_with : (had : List ℕ) (c : Commit) (old new : List (Option Thread)
     → HasStopped m.phase
 stopped_with had (Pair sender receiver chan msg stamp) old new c all = stopped_at had receiver msg c.0 new c.2 (stopped_at had sender Empty old c.0 c.1 all)
 stopped_with had (Alone at why stamp) old new c all = stopped_at had at (message_by why) old new c all
-
--- of the two rows of a pair
-pub stopped_first : (had : List ℕ) (first : RowResult) (old new : List (Option Thread)) → CatchesUpAt had first.at first.message old new → ((t : ℕ) (m : Thread) → slice_get old t ≡ Some (Some m) → HasStopped m.phase) → (t : ℕ) (m : Thread) → slice_get new t ≡ Some (Some m) → HasStopped m.phase
-stopped_first had first old new c all = stopped_at had first.at first.message old new c all
 
 pub trees_with : (had : List ℕ) (c : Commit) (old new : List (Option Thread)) → CatchesUpWith had c old new → (trees : List Tree) → RunTrees trees old → RunTrees trees new
 trees_with had (Pair sender receiver chan msg stamp) old new c trees run = trees_at had receiver msg c.0 new c.2 trees (trees_at had sender Empty old c.0 c.1 trees run)
