@@ -4,8 +4,8 @@ use denote.Param.SendFields.{declared_send, declared_sync, variants_send}
 use Rattle.std.proofs.Crossing.{crosses, frees, send}
 use Rattle.atomic_table.proofs.owned.Table.TheSendSync as table
 use Rattle.atomic_table.proofs.shared.Seat.TheSendSync as seat
-use Rattle.protocol.specs.contracts.resident.Bare as Bare
-use Rattle.protocol.specs.contracts.resident.BareResident.TheImpl as resident
+use Rattle.protocol_ledger.specs.contracts.resident.Bare as Bare
+use Rattle.protocol_ledger.specs.contracts.resident.BareResident.TheImpl as resident
 use Rattle.cell_table.specs.contracts.view.Shape as Shape
 use Rattle.cell_table.specs.contracts.view.View as View
 use Rattle.cell_table.specs.contracts.board.Board as Board
