@@ -33,7 +33,7 @@ pub run_more : (trees : List Tree) (xs : List (Option Thread)) (o : Option Threa
 run_more trees xs o before own t m is = ⊎_elim
     (λ old. before t m old.1)
     (λ new. subst (λ (n : ℕ). slice_get trees n ≡ Some m.body) (sym new.0) (subst (λ (p : Option Thread). IfSome p (λ y. slice_get trees (length xs) ≡ Some y.body)) new.1 own))
-    (slice_get-more xs o t (Some m) is)
+    (slice_get-more xs o (Some m) t is)
 
 -- what goes on into the next table, and what has ended, runs the thread's tree
 first_tree : (trees : List Tree) (n : ℕ) (tree : Tree) (s : Option Suspended) → slice_get trees n ≡ Some tree → IfSome s (λ x. x.machine.value.body ≡ tree) → IfSome (machine_in s) (λ m. slice_get trees n ≡ Some m.body)

@@ -37,8 +37,8 @@ returns-in-End-clause-trees g c =
     let trees = trees_of_script c.args.script.now in
     subst (NextRuns trees) c.in-End.is (c.in_ok-next.ensures.trees (c.in_ok-closed.ensures.trees trees c.loop-closed.invariant.3))
 
-pub loop-closed-preserved-in-Season : goal.loop-closed-preserved-in-Season
-loop-closed-preserved-in-Season g c =
+pub loop-closed-preserved : goal.loop-closed-preserved
+loop-closed-preserved g c =
     let ps = (script_of c.args.script.now).processes in
     let used = c.rows_used-used.result in
     let trees = trees_of_script c.args.script.now in
