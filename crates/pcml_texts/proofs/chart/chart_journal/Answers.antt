@@ -20,8 +20,8 @@ pub drawn-requires-clause-columns : goal.drawn-requires-clause-columns
 drawn-requires-clause-columns c =
     ap (λ (own : List Bool). length own) (c.deref.ensures.value ∙ c.in_ok-own-in-Run.ensures.named.1) ∙ each-column (script_of c.args.script.now) (option_copied c.args.drawing.now.only)
 
-pub returns-in-Run-clause-charted : goal.returns-in-Run-clause-charted
-returns-in-Run-clause-charted c =
+pub returns-in_ok-text-in-Run-clause-charted : goal.returns-in_ok-text-in-Run-clause-charted
+returns-in_ok-text-in-Run-clause-charted c =
     let s = script_of c.args.script.now in
     let led : LeadsTo s c.args.rows c.args.journal.now c.in-Run.commits.items c.in-Run.state =
     subst (λ (r : Reached). Reaches s c.args.rows c.args.journal.now r) c.in-Run.is c.in_ok-commits.ensures.reached in

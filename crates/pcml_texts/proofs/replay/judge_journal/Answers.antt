@@ -14,8 +14,8 @@ state_text-requires c =
     subst (λ (r : Reached). Reaches s c.args.rows c.args.journal.now r) c.in-Run.is c.in_ok-commits.ensures.reached in
     led.stands.strands.stands.count
 
-pub returns-in-Run-clause-judged : goal.returns-in-Run-clause-judged
-returns-in-Run-clause-judged c =
+pub returns-in_ok-text-in-Run-clause-judged : goal.returns-in_ok-text-in-Run-clause-judged
+returns-in_ok-text-in-Run-clause-judged c =
     let s = script_of c.args.script.now in
     let text = c.in_ok-text-in-Run.text.items in
     let led : LeadsTo s c.args.rows c.args.journal.now c.in-Run.commits.items c.in-Run.state =
@@ -24,8 +24,8 @@ returns-in-Run-clause-judged c =
     let tells = subst (λ (n : ℕ). TellsState (named s) c.in-Run.state n maximal text) (c.len.ensures ∙ c.in-Run.commits.ok.0) c.in_ok-text-in-Run.ensures in
     is_replayed s c.args.rows c.args.journal.now text c.in-Run.commits.items c.in-Run.state c.in_ok-next-in-Run.next maximal led.spells led.stands c.in_ok-next-in-Run.ensures c.is_none-is_maximal.ensures tells
 
-pub returns-clause-judged : goal.returns-clause-judged
-returns-clause-judged c =
+pub returns-in-NoRun-clause-judged : goal.returns-in-NoRun-clause-judged
+returns-in-NoRun-clause-judged c =
     let s = script_of c.args.script.now in
     let broken : Breaks s c.args.rows c.args.journal.now c.in-NoRun.broken =
     subst (λ (r : Reached). Reaches s c.args.rows c.args.journal.now r) c.in-NoRun.is c.in_ok-commits.ensures.reached in (
