@@ -15,6 +15,7 @@ use Rattle.pcml_request.specs.declared.request.Search.{Search}
 use Rattle.pcml_request.specs.Requests.{all_rows}
 use Rattle.pcml_explain.specs.Topics.{Explains}
 use Rattle.pcml_answers.specs.Needs.{MisnamesAny, Names}
+use Rattle.pcml_answers.specs.declared.need.NamesFault.{NamesFault}
 use Rattle.pcml_answers.specs.declared.need.NamesFault.TheVariants as names
 use Rattle.pcml_files.specs.Files.{Fits, IsTooLarge}
 use Rattle.pcml_tool.specs.Meet.{PrintsMeeting}

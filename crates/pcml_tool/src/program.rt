@@ -1,6 +1,6 @@
 //! The program, over any files and any two streams.
 
-ghost use Rattle.std.specs.Prelude.{◌≡◌, ◌⊎◌, ◌++◌, List, ℕ, IfOk, IfErr, length};
+ghost use Rattle.std.specs.Prelude.{◌≡◌, ◌≤◌, ◌⊎◌, ◌++◌, List, ℕ, IfOk, IfErr, length};
 ghost use Rattle.script.specs.Lines.{trees_of_script};
 ghost use Rattle.script.specs.Scripts.{script_of};
 ghost use Rattle.std.specs.Io.KnownBytes.{Appends};
