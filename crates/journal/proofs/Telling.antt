@@ -23,7 +23,7 @@ use Rattle.journal_order.specs.Behind.{TellsRun, nack_state}
 use Rattle.journal_order.specs.Laws.{IsOrderOf}
 use Rattle.journal_order.specs.Ledgers.{IsLedgerOf, fired_as}
 use Rattle.journal_order.proofs.Leading.{tells-thread}
-use Rattle.journal_replay.specs.declared.strand.Known.{Known}
+use Rattle.thread_stand.specs.declared.strand.Known.{Known}
 use Rattle.journal_replay.proofs.Lists.{nothing-there, slice_get-first, slice_get-last, slice_get-more}
 use Rattle.journal_replay.specs.Gathering.{AreKnown, HasGone, IsKnown, KnowsLast}
 use Rattle.journal_replay.specs.Runs.{Config, CountsOf, HasThread, IsGreatest, Starts, config_of}

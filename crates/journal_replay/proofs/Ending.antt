@@ -8,12 +8,13 @@ use Rattle.thread.specs.declared.machine.Turn.{Turn}
 use Rattle.thread.specs.declared.machine.Turn.TheVariants.{Offering, Ended, Faulted}
 use Rattle.thread.specs.Machines.{Thread, Phase, Ready, Open, Over, Stuck, Broken, IsAfterAt, HasStopped, Tells, nacks_in, offers_in}
 use Rattle.protocol_values.specs.declared.Commit.{Commit}
-use Rattle.journal_replay.specs.declared.end.End.TheVariants.{Unstarted}
+use Rattle.thread_stand.specs.declared.end.End.TheVariants.{Unstarted}
 use Rattle.journal_replay.specs.declared.state.State.{State}
-use Rattle.journal_replay.specs.declared.strand.Strand.{Strand}
+use Rattle.thread_stand.specs.declared.strand.Strand.{Strand}
 use Rattle.journal_replay.specs.Replays.{OpensAs, StandsAfter}
 use Rattle.journal_replay.specs.Runs.{Config, EndsAs, Starts, config_of, end_of}
-use Rattle.journal_replay.specs.Standing.{StrandStands, end_after, end_at, nacks_at, offers_at, printed_at}
+use Rattle.journal_replay.specs.Standing.{StrandStands}
+use Rattle.thread_stand.specs.Strands.{end_after, end_at, nacks_at, offers_at, printed_at}
 use Rattle.journal_replay.proofs.Opening.{moved, opens-as}
 
 pub end-in : (rows n : ℕ) (m : Thread) (p : Phase) (turn : Turn) → IsAfterAt m p → HasStopped p → Tells turn p →

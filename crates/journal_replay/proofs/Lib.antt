@@ -10,7 +10,6 @@ pub mod Running
 pub mod Extending
 pub mod Counting
 pub mod Sounding
-mod Remembering
 mod Replaying
 pub mod Ending
 mod Lines

@@ -1,18 +1,17 @@
 -- Threads gathered of machines that have gone part of a run.
-use Rattle.std.specs.Prelude.{◌≡◌, ◌≢◌, ◌⊎◌, ◌||◌, ◌<◌, ◌≤◌, ℕ, Bool, true, false, List, [], ◌∷◌, ◌++◌, Contains, IfSome, MatchOption, Option, Some, None, is_none, is_some, length, not, slice_get, slice_index_or, slice_set, take, unwrap_or}
+use Rattle.std.specs.Prelude.{◌≡◌, ◌≢◌, ◌⊎◌, ◌<◌, ◌≤◌, ℕ, Bool, true, false, List, Contains, IfSome, Option, Some, None, length, not, slice_get, slice_index_or, slice_set, take}
 use Rattle.script_tree.specs.Processes.{Proc}
 use Rattle.script_tree.specs.Spawning.{spawner}
-use Rattle.script_tree.specs.Trees.{block_of}
 use Rattle.thread.specs.After.{Chosen}
-use Rattle.thread.specs.Machines.{Thread, HasStopped, IsAfter, SameProcess, Tells, offers_in}
-use Rattle.thread.specs.Memories.{AddsNew}
+use Rattle.thread.specs.Machines.{Thread, offers_in}
 use Rattle.protocol_values.specs.declared.Commit.{Commit}
 use Rattle.protocol_values.specs.declared.Commit.TheVariants.{Pair, Alone}
 use Rattle.protocol_values.specs.declared.Row.{Row}
 use Rattle.protocol_values.specs.declared.RowResult.{RowResult}
 use Rattle.protocol_values.specs.Commits.{gives, most_rows}
-use Rattle.journal_replay.specs.declared.strand.Known.{Known}
-use Rattle.journal_replay.specs.declared.strand.Strand.{Strand}
+use Rattle.thread_stand.specs.declared.strand.Known.{Known}
+use Rattle.thread_stand.specs.declared.strand.Strand.{Strand}
+use Rattle.thread_stand.specs.Strands.{Gathers, GoesOn}
 use Rattle.journal_replay.specs.declared.threads.Threads.{Threads}
 use Rattle.journal_replay.specs.Runs.{CountsOf, HasThread, IsGreatest, Starts, config_of}
 use Rattle.journal_replay.specs.Standing.{KnowsNack, MachineStands}
@@ -43,24 +42,6 @@ pub record AreKnown (ps : List Proc) (commits : List Commit) (known : List Known
 
 -- WHAT THE CALLS DO
 
--- a machine at its process's first stop
-pub record HasBegun (process : Proc) (number : ℕ) (m : Thread) : Type 0 where
-  pub body : block_of m.body ≡ process.body
-  pub variables : m.variables ≡ length process.variables
-  pub thread : m.thread ≡ number
-  pub results : m.results ≡ []
-  pub stopped : HasStopped m.phase
-  pub after : IsAfter m
-
--- the strand of a thread of which this is known; it has started, too, where no text spawns its process
-pub record Gathers (process : Proc) (from : Option ℕ) (number : ℕ) (k : Known) (s : Strand) : Type 0 where
-  pub machine : MatchOption k.machine (HasBegun process number s.machine) (λ m. s.machine ≡ m)
-  pub turn : Tells s.turn s.machine.phase
-  pub spawner : s.spawner ≡ from
-  pub started : s.started ≡ (is_some k.last || is_none from)
-  pub last : s.last ≡ unwrap_or k.last 0
-  pub fired : s.fired ≡ k.fired
-
 -- so of each thread, in so many rows
 pub record AreGathered (ps : List Proc) (rows : ℕ) (known : List Known) (s : Threads) : Type 0 where
   pub rows_are : s.rows ≡ rows
@@ -86,19 +67,6 @@ pub record IsEarly (strands : List Strand) (t : ℕ) : Type 0 where
   pub other : ℕ
   pub spawned : Contains strand.machine.spawned other
   pub waits : waits_in strands other ≡ true
-
--- the thread went on by this result, and nothing else is known of it
-pub record GoesOn (chosen : Chosen) (old new : Strand) : Type 0 where
-  pub process : SameProcess old.machine new.machine
-  pub results : new.machine.results ≡ old.machine.results ++ chosen ∷ []
-  pub stopped : HasStopped new.machine.phase
-  pub after : IsAfter new.machine
-  pub spawned : AddsNew old.machine.spawned new.machine.spawned
-  pub turn : Tells new.turn new.machine.phase
-  pub spawner : new.spawner ≡ old.spawner
-  pub started : new.started ≡ old.started
-  pub last : new.last ≡ old.last
-  pub fired : new.fired ≡ old.fired
 
 -- thread t, and no other, went on by this result, which is of its next sync
 pub record OneGoesOn (at : Row × ℕ) (chosen : Chosen) (old new : List Strand) : Type 0 where

@@ -6,7 +6,6 @@ pub mod Replays
 pub mod Lines
 pub mod Variables
 pub mod Searching
-pub mod Ends
 pub mod Gathering
 pub mod Stamping
 pub mod Nexting

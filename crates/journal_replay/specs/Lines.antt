@@ -1,15 +1,15 @@
 -- At which line of its text each process of a run stands.
-use Rattle.std.specs.Prelude.{◌≡◌, ◌⊎◌, ℕ, if◌then◌else◌, List, length, map, IfSome, Some, slice_get}
+use Rattle.std.specs.Prelude.{◌≡◌, ◌⊎◌, ℕ, List, length, map, IfSome, Some, slice_get}
 use Rattle.script_tree.specs.Processes.{Proc}
 use Rattle.script_tree.specs.Trees as plain
 use Rattle.script_tree.specs.declared.tree.Block.{Block as Tree}
-use Rattle.thread.specs.Standing.{line_after, line_of}
+use Rattle.thread.specs.Standing.{line_after}
 use Rattle.protocol_values.specs.declared.Commit.{Commit}
 use Rattle.journal_replay.specs.Replays.{StandsAfter}
 use Rattle.journal_replay.specs.Runs.{Config, Starts, config_of}
 use Rattle.journal_replay.specs.declared.state.State.{State}
-use Rattle.journal_replay.specs.declared.strand.Known.{Known}
-use Rattle.journal_replay.specs.declared.strand.Strand.{Strand}
+use Rattle.thread_stand.specs.declared.strand.Known.{Known}
+use Rattle.thread_stand.specs.declared.strand.Strand.{Strand}
 
 -- the trees that threads run, with their lines
 abbrev pub trees_of : List Strand → List Tree
@@ -38,7 +38,3 @@ pub record StandsAtLine (ps : List Proc) (trees : List Tree) (t : ℕ) (config :
 abbrev pub TellsLine : State → ℕ → ℕ → Type 0
 TellsLine s t line =
     (ps : List Proc) (rows : ℕ) (journal : List Commit) → StandsAfter ps rows journal s → StandsAtLine ps (trees_in s) t (config_of journal) line
-
--- the line of a thread that has started
-abbrev pub line_at : Strand → ℕ
-line_at s = if s.started then line_of s.machine else 0

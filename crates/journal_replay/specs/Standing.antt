@@ -1,14 +1,10 @@
 -- What a replay remembers, and when that is true of a run.
-use Rattle.std.specs.Prelude.{◌≡◌, ◌≢◌, ◌==◌, ◌&&◌, ℕ, ◌+◌, ◌<◌, ◌≤◌, if◌then◌else◌, max, List, [], ◌∷◌, ◌++◌, length, replicate, true, false, Bool, Contains, Option, Some, None, is_none, option_and_then, nat_lt, slice_get, slice_index_or, slice_set}
-use Rattle.std.specs.List.{list_any}
+use Rattle.std.specs.Prelude.{◌≡◌, ◌≢◌, ℕ, ◌+◌, ◌<◌, ◌≤◌, if◌then◌else◌, max, List, [], ◌∷◌, length, true, false, Bool, Contains, Option, Some, None, option_and_then, slice_get, slice_index_or, slice_set}
 use Rattle.script_tree.specs.Processes.{Proc}
 use Rattle.script_tree.specs.Spawning.{has_bit, spawner}
 use Rattle.script_tree.specs.Trees.{block_of}
 use Rattle.thread.specs.After.{Chosen}
-use Rattle.thread.specs.declared.machine.Turn.{Turn}
-use Rattle.thread.specs.declared.machine.Turn.TheVariants.{Offering, Ended, Faulted}
-use Rattle.thread.specs.Machines.{Thread, HasStopped, IsAfter, SameProcess, Tells, offers_in, nacks_in}
-use Rattle.protocol_values.specs.declared.Atom.{Atom}
+use Rattle.thread.specs.Machines.{Thread, HasStopped, IsAfter, Tells}
 use Rattle.protocol_values.specs.declared.Base.{Base}
 use Rattle.protocol_values.specs.declared.Base.TheVariants.{Send, Recv, Always, OnNack, OnEnd}
 use Rattle.protocol_values.specs.declared.Cause.{Cause}
@@ -18,12 +14,12 @@ use Rattle.protocol_values.specs.declared.Commit.TheVariants.{Pair, Alone}
 use Rattle.protocol_values.specs.declared.NackName.{NackName}
 use Rattle.protocol_values.specs.declared.Offer.{Offer}
 use Rattle.protocol_values.specs.declared.Row.{Row}
-use Rattle.protocol_values.specs.Scopes.{has_scope}
 use Rattle.protocol_values.specs.declared.RowResult.{RowResult}
 use Rattle.protocol_values.specs.Commits.{gives, stamp_of}
-use Rattle.journal_replay.specs.declared.end.End.{End}
-use Rattle.journal_replay.specs.declared.end.End.TheVariants as end
-use Rattle.journal_replay.specs.declared.strand.Strand.{Strand}
+use Rattle.thread_stand.specs.declared.end.End.{End}
+use Rattle.thread_stand.specs.declared.end.End.TheVariants as end
+use Rattle.thread_stand.specs.declared.strand.Strand.{Strand}
+use Rattle.thread_stand.specs.Strands.{Grows, end_stamp, next_offer, stamp_from}
 use Rattle.journal_replay.specs.declared.threads.Threads.{Threads}
 use Rattle.journal_replay.specs.Runs.{Config, CountsOf, FiredAt, HasThread, HasRow, IsGreatest, Starts, config_of}
 
@@ -79,31 +75,6 @@ pub record Stands (ps : List Proc) (journal : List Commit) (strands : List Stran
 
 -- WHAT THE CALLS FIND AND DO
 
--- offer n of the thread's next sync, where it has started and the row is that sync, of fewer than so many
-abbrev pub next_offer : ℕ → Row × ℕ → Strand → Option Offer
-next_offer rows at s =
-    if s.started && ((at.0.sync == length s.machine.results) && nat_lt at.0.sync rows) then slice_get (offers_in s.machine.phase) at.1 else None
-
--- how the thread stands, of at most so many syncs
-abbrev pub end_after : ℕ → ℕ → Turn → End
-end_after rows count Offering = if nat_lt count rows then end.Waiting else end.Spent
-end_after rows count Ended = end.Ended
-end_after rows count (Faulted fault) = end.Faulted fault
-
-abbrev pub end_at : ℕ → Strand → End
-end_at rows s = if s.started then end_after rows (length s.machine.results) s.turn else end.Unstarted
-
--- what a thread that has started offers, with the nacks of its scopes
-abbrev pub offers_at : Strand → List Offer
-offers_at s = if s.started then offers_in s.machine.phase else []
-
-abbrev pub nacks_at : Strand → List ℕ
-nacks_at s = if s.started then nacks_in s.machine.phase else []
-
--- what a thread that has started printed
-abbrev pub printed_at : Strand → List Atom
-printed_at s = if s.started then s.machine.output else []
-
 abbrev pub offer_in : List Strand → ℕ → Row × ℕ → Option Offer
 offer_in strands rows at = option_and_then (next_offer rows at) (slice_get strands at.0.thread)
 
@@ -116,16 +87,6 @@ last_in strands t = last_of (slice_get strands t)
 
 abbrev pub fired_in : List Strand → NackName → Option ℕ
 fired_in strands n = option_and_then (λ s. slice_index_or s.fired n.k None) (slice_get strands n.thread)
-
--- the thread has started, and has ended or faulted
-abbrev pub is_over : Turn → Bool
-is_over Offering = false
-is_over Ended = true
-is_over (Faulted fault) = true
-
--- the stamp that counts for the end of a thread
-abbrev pub end_stamp : Strand → Option ℕ
-end_stamp s = if s.started && is_over s.turn then Some s.last else None
 
 abbrev pub ended_in : List Strand → ℕ → Option ℕ
 ended_in strands t = option_and_then end_stamp (slice_get strands t)
@@ -160,25 +121,6 @@ pub record MayBe (strands : List Strand) (rows : ℕ) (c : Commit) : Type 0 wher
   pub may : MayFollow strands rows c below
   pub stamp : stamp_of c ≡ below + 1
 
--- of an open sync with these nacks, that was committed inside the scopes of the mask, at this stamp: nacks of the other scopes are fired
-pub record FiresMore (nacks : List ℕ) (scopes stamp : ℕ) (old new : List (Option ℕ)) : Type 0 where
-  pub fires : (k s : ℕ) → slice_get nacks s ≡ Some k → has_scope scopes s ≡ false → slice_index_or new k None ≡ Some stamp
-  pub stays : (k : ℕ) → ((s : ℕ) → slice_get nacks s ≡ Some k → has_scope scopes s ≡ true) → slice_index_or new k None ≡ slice_index_or old k None
-
--- the thread's open sync is committed by this result at this stamp, and the thread went on
-pub record Grows (chosen : Chosen) (stamp : ℕ) (old new : Strand) : Type 0 where
-  pub process : SameProcess old.machine new.machine
-  pub results : new.machine.results ≡ old.machine.results ++ chosen ∷ []
-  pub stopped : HasStopped new.machine.phase
-  pub after : IsAfter new.machine
-  pub turn : Tells new.turn new.machine.phase
-  pub spawner : new.spawner ≡ old.spawner
-  pub started : new.started ≡ old.started
-  pub last : new.last ≡ stamp
-  pub offer : Offer
-  pub was : slice_get (offers_in old.machine.phase) chosen.0 ≡ Some offer
-  pub fired : FiresMore (nacks_in old.machine.phase) offer.scopes stamp old.fired new.fired
-
 -- thread t, and no other, grew by this result at this stamp
 pub record OneGrows (t : ℕ) (chosen : Chosen) (stamp : ℕ) (old new : List Strand) : Type 0 where
   pub before : Strand
@@ -197,14 +139,6 @@ TakesEach stamp (first, Some second) old new = (middle : List Strand) × TakesOn
 
 abbrev pub Takes : Commit → List Strand → List Strand → Type 0
 Takes c old new = TakesEach (stamp_of c) (gives c) old new
-
--- whether the thread has started, and has spawned this one
-abbrev pub has_run : Strand → ℕ → Bool
-has_run s t = s.started && list_any (λ p. p == t) s.machine.spawned
-
-abbrev pub stamp_from : ℕ → Option Strand → Option ℕ
-stamp_from t None = None
-stamp_from t (Some s) = if has_run s t then Some s.last else None
 
 abbrev pub stamp_of_start : List Strand → ℕ → Strand → Option ℕ
 stamp_of_start strands t s = if s.started then None else option_and_then (λ from. stamp_from t (slice_get strands from)) s.spawner
@@ -249,20 +183,6 @@ pub record IsOrdered (s : Threads) : Type 0 where
 -- the threads of the commit took their results, and all started that could
 abbrev pub Commits : Commit → List Strand → List Strand → Type 0
 Commits c old new = (taken : List Strand) × Takes c old taken × Wakes taken new
-
--- the process's thread at its first stop; it has started where no text spawns it
-pub record Begins (process : Proc) (from : Option ℕ) (number : ℕ) (s : Strand) : Type 0 where
-  pub body : block_of s.machine.body ≡ process.body
-  pub variables : s.machine.variables ≡ length process.variables
-  pub thread : s.machine.thread ≡ number
-  pub results : s.machine.results ≡ []
-  pub stopped : HasStopped s.machine.phase
-  pub after : IsAfter s.machine
-  pub turn : Tells s.turn s.machine.phase
-  pub started : s.started ≡ is_none from
-  pub spawner : s.spawner ≡ from
-  pub last : s.last ≡ 0
-  pub fired : s.fired ≡ replicate 256 None
 
 -- WHO SPAWNS A PROCESS, by masks of what each spawns
 

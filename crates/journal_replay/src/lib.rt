@@ -8,7 +8,6 @@
 //! - `gather` stands where a run leads, by machines that have gone part of it, and `retrace` by none.
 #![tactic(auto)]
 
-mod end;
 mod gathering;
 mod nexts;
 mod openings;
@@ -16,14 +15,12 @@ mod placed;
 mod runs;
 mod search;
 mod state;
-mod strand;
 mod threads;
 mod waiters;
 
-pub use crate::end::End;
 pub use crate::gathering::{gather, retrace};
 pub use crate::placed::is_placed;
 pub use crate::runs::{replay, replay_lawful, restamp, settle};
 pub use crate::state::{ReplayFault, State};
-pub use crate::strand::Known;
 pub use crate::threads::spawners;
+pub use thread_stand::{End, Known};

@@ -7,9 +7,9 @@ use Rattle.std.proofs.lemmas.Option.{none-some, same_Some}
 use Rattle.protocol_values.specs.declared.Atom.{Atom}
 use Rattle.protocol_values.specs.declared.Commit.{Commit}
 use Rattle.script.specs.Sources.{Script}
-use Rattle.journal_replay.specs.declared.end.End.{End}
-use Rattle.journal_replay.specs.declared.end.End.TheVariants.{Ended, Faulted, Spent, Unstarted, Waiting}
-use Rattle.journal_replay.specs.Ends.{is_ended, is_spent, is_waiting}
+use Rattle.thread_stand.specs.declared.end.End.{End}
+use Rattle.thread_stand.specs.declared.end.End.TheVariants.{Ended, Faulted, Spent, Unstarted, Waiting}
+use Rattle.thread_stand.specs.Ends.{is_ended, is_spent, is_waiting}
 use Rattle.outcomes.specs.Asking.{has_unended, has_waiting, marked, tells}
 use Rattle.outcomes.specs.Outcomes.{Has, LeadsTo, ends_in}
 use Rattle.outcomes.specs.declared.Extent.{Extent}

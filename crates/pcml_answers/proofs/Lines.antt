@@ -6,7 +6,7 @@ use Rattle.std.proofs.lemmas.List.{flat_map_more}
 use Rattle.std.proofs.lemmas.Option.{none-some, same_Some}
 use Rattle.protocol_values.specs.declared.Atom.{Atom}
 use Rattle.journal_text.specs.Names.{Naming}
-use Rattle.journal_replay.specs.declared.end.End.{End}
+use Rattle.thread_stand.specs.declared.end.End.{End}
 use Rattle.journal_replay.proofs.Telling.{HoldsOf, holds-more}
 use Rattle.outcomes.specs.Asking.{marked}
 use Rattle.pcml_answers.specs.Standings.{Standing, process_line, process_lines, standings}

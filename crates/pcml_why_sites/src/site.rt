@@ -3,7 +3,7 @@
 ghost use Rattle.std.specs.Prelude.{◌≡◌, ◌==◌, ◌&&◌, ◌≤◌, ℕ, IfOk, length, map};
 ghost use Rattle.script_tree.specs.Processes.{proc_of};
 ghost use Rattle.std.specs.List.{list_any};
-ghost use Rattle.journal_replay.specs.Ends.{is_waiting};
+ghost use Rattle.thread_stand.specs.Ends.{is_waiting};
 ghost use Rattle.journal_replay.specs.Replays.{StandsAfter, thread_count};
 ghost use Rattle.script.specs.Scripts.{script_of};
 ghost use Rattle.pcml_why_sites.specs.Offering.{is_open, offers_on, others};

@@ -6,8 +6,8 @@ use Rattle.protocol.specs.Acting.{before_of}
 use Rattle.protocol.specs.Ledgers.{Ledger}
 use Rattle.protocol.specs.Openings.{Opening}
 use Rattle.protocol_values.specs.declared.Offer.{Offer}
-use Rattle.journal_replay.specs.declared.end.End.{End}
-use Rattle.journal_replay.specs.declared.end.End.TheVariants.{Spent}
+use Rattle.thread_stand.specs.declared.end.End.{End}
+use Rattle.thread_stand.specs.declared.end.End.TheVariants.{Spent}
 use Rattle.journal_replay.specs.Runs.{config_of}
 use Rattle.journal_order.specs.Ledgers.{ProcessOffers}
 use Rattle.journal_order.specs.Behind.{GoesOn, run_on}

@@ -1,3 +1,4 @@
+pub mod Remembering
 pub mod Valuing
 pub mod Lining
 pub mod Forgetting

@@ -11,7 +11,7 @@ use Rattle.thread_stand.specs.Standing.{Standing, Goes, Offers, Finishes, Fails,
 use Rattle.thread_stand.specs.Troubles.{expr_value, test_value}
 use Rattle.thread_stand.specs.Walks as walks
 use Rattle.thread_stand.specs.Walks.{View, view_of, Walked, On, Halts, ◌>>=◌ as ◌>>>◌, walk_names, wrapped_in, pass, pass_all, passed, taken, walk_nack, walk_block, walk_stmt, walk_event, walk_members, walk_start}
-use Rattle.thread_stand.specs.Ends as ends
+use Rattle.thread_stand.specs.WalkEnds as ends
 use Rattle.thread_stand.specs.Stands.{IsTold}
 use Rattle.thread_stand.specs.declared.stand.Stand.{Stand}
 use Rattle.thread_stand.specs.declared.stand.Stand.TheVariants as told

@@ -1,17 +1,27 @@
--- What is told at the end of a walk.
-use Rattle.std.specs.Prelude.{◌≡◌, ◌<◌, [], length, ⊤}
-use Rattle.thread_stand.specs.Walks.{Walked, On, Halts}
-use Rattle.thread_stand.specs.declared.stand.Stand.{Stand}
-use Rattle.thread_stand.specs.declared.stand.Stand.TheVariants.{Offers, Finishes, Fails, Strays}
-use Rattle.thread_stand.specs.declared.walk.Stop.TheVariants as stop
+-- How a process stands, in words.
+use Rattle.std.specs.Prelude.{ℕ, List, codes, Bool, true, false}
+use Rattle.thread.specs.declared.Fault.TheVariants.{Unset, Kind, Range, Shape}
+use Rattle.thread_stand.specs.declared.end.End.{End}
+use Rattle.thread_stand.specs.declared.end.End.TheVariants.{Ended, Waiting, Spent, Faulted, Unstarted}
 
-abbrev pub IsTold : {A : Type 0} → Walked A → Stand → Type 0
-IsTold (On value v) Finishes = v.left ≡ []
-IsTold (On value v) Strays = 0 < length v.left
-IsTold (Halts stop.Finishes v) Finishes = v.left ≡ []
-IsTold (Halts stop.Finishes v) Strays = 0 < length v.left
-IsTold (Halts stop.Offers v) (Offers variables) = variables.items ≡ v.store
-IsTold (Halts (stop.Fails trouble) v) (Fails variables told) = (variables.items ≡ v.store) × (told ≡ trouble) × (v.left ≡ [])
-IsTold (Halts (stop.Fails trouble) v) Strays = 0 < length v.left
-IsTold (Halts stop.Strays v) Strays = ⊤
-IsTold one other = ⊥
+abbrev pub is_ended : End → Bool
+is_ended Ended = true
+is_ended end = false
+
+abbrev pub is_waiting : End → Bool
+is_waiting Waiting = true
+is_waiting end = false
+
+abbrev pub is_spent : End → Bool
+is_spent Spent = true
+is_spent end = false
+
+abbrev pub end_text : End → List ℕ
+end_text Ended = codes "ended"
+end_text Waiting = codes "waiting"
+end_text Spent = codes "spent"
+end_text (Faulted Unset) = codes "faulted unset"
+end_text (Faulted Kind) = codes "faulted kind"
+end_text (Faulted Range) = codes "faulted range"
+end_text (Faulted Shape) = codes "faulted shape"
+end_text Unstarted = codes "unstarted"

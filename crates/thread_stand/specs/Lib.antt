@@ -4,4 +4,6 @@ pub mod Forgetting
 pub mod Stands
 pub mod Variables
 pub mod Walks
+pub mod WalkEnds
 pub mod Ends
+pub mod Strands

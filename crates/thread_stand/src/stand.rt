@@ -3,7 +3,7 @@
 ghost use Rattle.std.specs.Prelude.{◌≡◌, None, IfOk, replicate};
 ghost use Rattle.script_tree.specs.Processes.{proc_of};
 ghost use Rattle.thread_stand.specs.Stands.{IsTold, TellsTrouble, standing_of};
-ghost use Rattle.thread_stand.specs.Ends.{IsTold as IsToldOf};
+ghost use Rattle.thread_stand.specs.WalkEnds.{IsTold as IsToldOf};
 ghost use Rattle.thread_stand.specs.Walks.{came};
 
 use crate::trouble::Trouble;

@@ -2,7 +2,7 @@ use Rattle.std.proofs.Common.{None, length, replicate, ap, ap₂, subst, ◌∙�
 use Rattle.script_tree.specs.Processes.{proc_of}
 use Rattle.script_tree.specs.Trees.{block_of}
 use Rattle.thread.specs.Values.{Store}
-use Rattle.thread_stand.specs.Ends.{IsTold}
+use Rattle.thread_stand.specs.WalkEnds.{IsTold}
 use Rattle.thread_stand.specs.Walks.{View, walk_block}
 use Rattle.thread_stand.proofs.Seeing.{walk_told}
 use Rattle.thread_stand.proofs.stand.stand_of.Goals as goal

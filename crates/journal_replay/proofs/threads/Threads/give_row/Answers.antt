@@ -1,7 +1,7 @@
 use Rattle.std.proofs.Common.{rules, ◌≡◌, ◌<◌, ℕ, List, get_or, length, slice_set, Some, inr, sym, ap, subst, ◌∙◌}
 use Rattle.std.proofs.lemmas.Option.{slice_get-get_or}
 use Rattle.std.proofs.Common.{slice_get}
-use Rattle.journal_replay.specs.declared.strand.Strand.{Strand}
+use Rattle.thread_stand.specs.declared.strand.Strand.{Strand}
 use Rattle.journal_replay.proofs.threads.Threads.give_row.Goals as goal
 
 pub returns-clause-gives : goal.returns-clause-gives

@@ -3,7 +3,7 @@ use Rattle.std.proofs.Common.{◌≡◌, ◌⊎◌, ℕ, ◌+◌, ◌<◌, true,
 use Rattle.std.proofs.lemmas.Bool.{cases_eq, false≢true}
 use Rattle.std.proofs.lemmas.Option.{same_Some, slice_get_within}
 use Rattle.protocol_values.specs.Scopes.{has_scope}
-use Rattle.journal_replay.specs.Standing.{FiresMore}
+use Rattle.thread_stand.specs.Strands.{FiresMore}
 
 -- the first so many scopes are done
 pub record FiresUpTo (n : ℕ) (nacks : List ℕ) (scopes stamp : ℕ) (old new : List (Option ℕ)) : Type 0 where

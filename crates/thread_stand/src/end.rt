@@ -1,7 +1,7 @@
 //! How a thread ends.
 
 ghost use Rattle.std.specs.Prelude.{◌≡◌};
-ghost use Rattle.journal_replay.specs.Ends.{end_text, is_ended, is_spent, is_waiting};
+ghost use Rattle.thread_stand.specs.Ends.{end_text, is_ended, is_spent, is_waiting};
 
 use thread::Fault;
 
