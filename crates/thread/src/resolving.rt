@@ -87,6 +87,7 @@ fn base_of(event: &Event, variables: &[Option<Atom>]) -> Result<Base, Fault>
 
 /// Goes through the stages of a sync's event, from the next one up to one whose block runs first; behind
 /// the last one the sync is open.
+#[inline(always)]
 pub(crate) fn resolve(
     code: &Code,
     mut opening: Opening,

@@ -19,6 +19,7 @@ use std::alloc::AllocError;
 use thread_code::Code;
 
 /// A sync of this plan that begins now.
+#[inline(always)]
 fn opening(stack: &Stack, plan: u32) -> Opening
     ensures { result ≡ record { plan = plan; stage = 0; offers = length stack.now.offers.items; nacks = length stack.now.nacks.items } }
 {
@@ -43,6 +44,7 @@ fn turns(stack: &mut Stack, next: u32, frame: Frame) -> Result<Step, AllocError>
 }
 
 /// Runs the first statement at a place, or begins it.
+#[inline(always)]
 pub(crate) fn run(
     code: &Code,
     at: u32,

@@ -70,14 +70,21 @@ fn value_of_sum(expr: &Expr, variables: &[Option<Atom>]) -> Result<Atom, Fault>
     Ok(value)
 }
 
-/// What an expression comes to, with no call where it is one operand.
+/// What an expression comes to, with no call where it is one operand, or two.
 #[inline(always)]
 pub(crate) fn value_of(expr: &Expr, variables: &[Option<Atom>]) -> Result<Atom, Fault>
     ensures { result ≡ expr_value variables.now (expr_of expr.now) }
 {
-    match expr.more {
-        Terms::Nothing => value_of_operand(expr.first, variables),
-        Terms::More(_, _, _) => value_of_sum(expr, variables),
+    let Terms::More(sign, term, more) = &expr.more else {
+        return value_of_operand(expr.first, variables);
+    };
+    match (term, &**more) {
+        (Term::Operand(right), Terms::Nothing) => {
+            let left = value_of_operand(expr.first, variables)?;
+            let right = value_of_operand(*right, variables)?;
+            combined(*sign, left, right)
+        }
+        _ => value_of_sum(expr, variables),
     }
 }
 
