@@ -14,16 +14,13 @@ use Rattle.protocol_values.specs.declared.Offer.{Offer}
 use Rattle.protocol_values.specs.Values.{joined_of}
 use Rattle.protocol_values.specs.Words.{field, partner_bits, joined_bits, cell_of, cell_word, base_of, offer_of, IsCellInRange, IsJoinedInRange}
 use Rattle.protocol_values.proofs.WordLemmas.{cell_of-cell_word, cell_of-zero, cell_word-cell_of, offer_of-fields}
+use Rattle.protocol_ledger.specs.CellWords.{joined_by, partner_by}
 use Rattle.protocol_ledger.specs.Tables.{Table, is_row, is_fresh, cell_at, joined_at, word_at, count_at, offer_at}
 use Rattle.protocol_ledger.specs.Ledgers.{sends, is_send}
 use Rattle.protocol_ledger.proofs.Linking.{cases_Option}
 use Rattle.protocol_ledger.proofs.Readings.{cell_inside, offer_counted}
 
 -- A ROW WITH A PARTNER
-
--- the partner with whom a row of this word is committed
-abbrev pub partner_by : ℕ → Option (Row × ℕ)
-partner_by w = option_and_then (λ (j : Joined). j.partner) (joined_of (unwrap_or (cell_of w) Fresh))
 
 -- the word's state is that of a committed row, it has a partner, and its stamp is none of 0 and no longer than a stamp
 pub record IsPairWord (w : ℕ) : Type 0 where
@@ -47,20 +44,23 @@ way_in_range w h = record {
 way_word : (w : ℕ) → IsPairWord w → w ≡ w % 8 + joined_bits (way_of w)
 way_word w h = let p = h.paired in let s = h.stamp_high in omega arith
 
-of_way : (w : ℕ) (j : Joined) → IsJoinedInRange j → ((w ≡ 3 + joined_bits j) ⊎ (w ≡ 4 + joined_bits j)) → partner_by w ≡ j.partner
+of_way : (w : ℕ) (j : Joined) → IsJoinedInRange j → ((w ≡ 3 + joined_bits j) ⊎ (w ≡ 4 + joined_bits j)) → joined_by w ≡ Some j
 unfolding cell_word
 of_way w j h e = ⊎_elim
-    (λ (e : w ≡ 3 + joined_bits j). ap partner_by e ∙ ap (λ (o : Option Cell). option_and_then (λ (j : Joined). j.partner) (joined_of (unwrap_or o Fresh))) (cell_of-cell_word (Synched j) h))
-    (λ (e : w ≡ 4 + joined_bits j). ap partner_by e ∙ ap (λ (o : Option Cell). option_and_then (λ (j : Joined). j.partner) (joined_of (unwrap_or o Fresh))) (cell_of-cell_word (Taken j) h))
+    (λ (e : w ≡ 3 + joined_bits j). ap joined_by e ∙ ap (λ (o : Option Cell). joined_of (unwrap_or o Fresh)) (cell_of-cell_word (Synched j) h))
+    (λ (e : w ≡ 4 + joined_bits j). ap joined_by e ∙ ap (λ (o : Option Cell). joined_of (unwrap_or o Fresh)) (cell_of-cell_word (Taken j) h))
     e
 
-pub pair_word : (w : ℕ) → IsPairWord w → is_some (partner_by w) ≡ true
-pair_word w h =
+way_is : (w : ℕ) → IsPairWord w → joined_by w ≡ Some (way_of w)
+way_is w h =
     let whole = way_word w h in
-    ap (λ (o : Option (Row × ℕ)). is_some o) (of_way w (way_of w) (way_in_range w h) (⊎_elim
+    of_way w (way_of w) (way_in_range w h) (⊎_elim
     (λ (e : w % 8 ≡ 3). ◌⊎◌.inl (omega (arith, whole, e)))
     (λ (e : w % 8 ≡ 4). ◌⊎◌.inr (omega (arith, whole, e)))
-    h.state))
+    h.state)
+
+pub pair_word : (w : ℕ) → IsPairWord w → is_some (partner_by w) ≡ true
+pair_word w h = ap (λ (o : Option Joined). is_some (option_and_then (λ (j : Joined). j.partner) o)) (way_is w h)
 
 -- and no other word has a partner
 bits_of : (state own stamp : ℕ) (p : Option (Row × ℕ)) → state < 8 → (state + (own * 2 ^ 3 + partner_bits p + stamp * 2 ^ 26)) % 8 ≡ state
@@ -102,16 +102,15 @@ pair_only w h = ⊎_elim
     in_cell (Synched j) range is k = of_pair w 3 j.own j.stamp j.partner (◌⊎◌.inl refl) range is k
     in_cell (Taken j) range is k = of_pair w 4 j.own j.stamp j.partner (◌⊎◌.inr refl) range is k
 
--- so a word with a partner is a cell's
-pub pair_is_cell : (w : ℕ) → is_some (partner_by w) ≡ true → is_some (cell_of w) ≡ true
-pair_is_cell w h = ⊎_elim
-    (λ (e : cell_of w ≡ None). absurd (false≢true (sym (ap (λ (o : Option Cell). is_some (option_and_then (λ (j : Joined). j.partner) (joined_of (unwrap_or o Fresh)))) e) ∙ h)))
-    (λ (c : (c : Cell) × (cell_of w ≡ Some c)). ap (λ (o : Option Cell). is_some o) c.1)
-    (cases_Option (cell_of w))
+-- so such a word says all of how its row is committed
+pub pair_way : (w own offer thread sync stamp : ℕ) → is_some (partner_by w) ≡ true → own ≡ field w 3 3 → offer ≡ field w 7 3 → thread ≡ field w 20 6 → sync ≡ field w 10 10 → stamp ≡ field w 26 32 → joined_by w ≡ Some (record { own = own; partner = Some (record { thread = thread; sync = sync }, offer); stamp = stamp })
+pair_way w own offer thread sync stamp h e₁ e₂ e₃ e₄ e₅ =
+    way_is w (pair_only w h)
+    ∙ (λ i. Some (record { own = sym e₁ i; partner = Some (record { thread = sym e₃ i; sync = sym e₄ i }, sym e₂ i); stamp = sym e₅ i }))
 
 -- how a row is committed is what its word says
-pub joined_word : (t : Table) (r : Row) (w : ℕ) → is_row t r ≡ true → w ≡ word_at t r 0 → joined_at t r ≡ joined_of (unwrap_or (cell_of w) Fresh)
-joined_word t r w row is = ap joined_of (cell_inside t r row) ∙ ap (λ (w : ℕ). joined_of (unwrap_or (cell_of w) Fresh)) (sym is)
+pub joined_word : (t : Table) (r : Row) (w : ℕ) → is_row t r ≡ true → w ≡ word_at t r 0 → joined_at t r ≡ joined_by w
+joined_word t r w row is = ap joined_of (cell_inside t r row) ∙ ap joined_by (sym is)
 
 -- a row of a word that is 0 is Fresh
 pub zero_fresh : (t : Table) (r : Row) → is_row t r ≡ true → word_at t r 0 ≡ 0 → is_fresh (cell_at t r) ≡ true

@@ -1,16 +1,14 @@
 //! The commits that a sheet's words name.
 
-ghost use Rattle.std.specs.Prelude.{◌≡◌, ◌≤◌, ◌<◌, ◌++◌, IfOk, IsOk, IfSome, IfNone, Some, true, false, is_some, option_and_then, option_to_list, unwrap_or};
+ghost use Rattle.std.specs.Prelude.{◌≡◌, ◌≤◌, ◌<◌, ◌++◌, IfOk, IsOk, IfSome, IfNone, Some, true, false, is_some, option_and_then, option_to_list};
 ghost use Rattle.std.specs.List.{flat_map};
 ghost use Rattle.protocol_ledger.specs.Tables.{all_rows, rows_below, cell_at, is_fresh, is_row, word_at, joined_at, offer_at, namer_of, is_partner};
-ghost use Rattle.protocol_ledger.specs.Ledgers.{alone_by, pair_by, commit_by, commit_named, named_at, commit_at, told_at, tells, is_send, commits_of, pending_of, is_pending, ledger_of, IsLawful};
+ghost use Rattle.protocol_ledger.specs.Ledgers.{alone_by, pair_by, commit_by, commit_named, named_at, commit_at, told_at, is_send, commits_of, pending_of, is_pending, ledger_of, IsLawful};
 ghost use Rattle.protocol_ledger.specs.Sheets.{table_of};
-ghost use Rattle.protocol_values.specs.Values.{joined_of};
-ghost use Rattle.protocol_values.specs.Words.{cell_of};
-ghost use Rattle.protocol_values.specs.declared.Cell.TheVariants.{Fresh};
+ghost use Rattle.protocol_ledger.specs.CellWords.{joined_by, partner_by};
 
 use crate::sheet::{Sheet, is_fresh};
-use protocol_values::{Base, Cause, Cell, Commit, Joined, Offer, Row, read_cell, unpack_cell};
+use protocol_values::{Base, Cause, Cell, Commit, Joined, Offer, Row, unpack_cell};
 use std::alloc::AllocError;
 
 impl Sheet {
@@ -60,31 +58,72 @@ impl Sheet {
         }
     }
 
-    /// The commit that is told of a row with this word, so that each commit is told once. Of a row that
-    /// received from one that is committed nothing more is read than one word of its offer.
+    /// The commit that is told of a row with this word, so that each commit is told once.
     fn told(&self, row: Row, word: u64) -> Option<Commit>
         requires lawful { IsLawful (ledger_of (table_of self.now)) }
         requires row { is_row (table_of self.now) row ≡ true }
         requires word { word ≡ word_at (table_of self.now) row 0 }
         ensures { result ≡ told_at (joined_at (table_of self.now)) (offer_at (table_of self.now)) row }
     {
-        let joined = joined_by(word)?;
-        if self.tells(row, joined) {
-            self.commit_named(row, joined)
+        if is_of_pair(word) {
+            self.told_of_pair(row, word)
         } else {
-            None
+            self.told_alone(row)
         }
     }
 
-    /// Whether a row that is committed so tells its commit.
-    fn tells(&self, row: Row, joined: Joined) -> bool
+    /// The same of a row that has no partner.
+    #[inline(never)]
+    fn told_alone(&self, row: Row) -> Option<Commit>
         requires lawful { IsLawful (ledger_of (table_of self.now)) }
-        requires joined { joined_at (table_of self.now) row ≡ Some joined }
-        ensures { result ≡ tells (joined_at (table_of self.now)) (offer_at (table_of self.now) row joined.own) joined.partner }
+        requires alone { is_some (option_and_then (λ j. j.partner) (joined_at (table_of self.now) row)) ≡ false }
+        ensures { result ≡ told_at (joined_at (table_of self.now)) (offer_at (table_of self.now)) row }
     {
-        match joined.partner {
-            None => true,
-            Some((partner, _)) => self.is_send(row, joined.own) || !self.is_committed(partner),
+        let joined = self.joined(row)?;
+        self.commit_named(row, joined)
+    }
+
+    /// The same of a row that has a partner. Of one that received from a row that is committed no more is read than
+    /// one word of its offer.
+    fn told_of_pair(&self, row: Row, word: u64) -> Option<Commit>
+        requires lawful { IsLawful (ledger_of (table_of self.now)) }
+        requires row { is_row (table_of self.now) row ≡ true }
+        requires word { word ≡ word_at (table_of self.now) row 0 }
+        requires pair { is_some (partner_by word) ≡ true }
+        ensures { result ≡ told_at (joined_at (table_of self.now)) (offer_at (table_of self.now)) row }
+    {
+        let (own, partner, stamp) = read_pair(word);
+        if self.is_send(row, own) {
+            return self.sent(row, own, partner, stamp);
+        }
+        if self.is_committed(partner.0) {
+            return None;
+        }
+        let partner = Some(partner);
+        self.commit_named(
+            row,
+            Joined {
+                own,
+                partner,
+                stamp,
+            },
+        )
+    }
+
+    /// The commit of a row that offered a send, and whose partner took it.
+    fn sent(&self, row: Row, own: u8, partner: (Row, u8), stamp: u32) -> Option<Commit>
+        requires { is_send (offer_at (table_of self.now) row own) ≡ true }
+        ensures { result ≡ commit_named (offer_at (table_of self.now)) row (record { own = own; partner = Some partner; stamp = stamp }) }
+    {
+        match self.known_offer(row, own).base {
+            Base::Send(chan, msg) => Some(Commit::Pair {
+                sender: (row, own),
+                receiver: partner,
+                chan,
+                msg,
+                stamp,
+            }),
+            _ => None,
         }
     }
 
@@ -272,22 +311,10 @@ fn alone_commit(row: Row, joined: Joined, base: Base) -> Option<Commit>
     })
 }
 
-/// How a row with this word is committed: what unpacking says, but of a pair's word nothing is packed again.
-#[inline(always)]
-fn joined_by(word: u64) -> Option<Joined>
-    ensures { result ≡ joined_of (unwrap_or (cell_of word) Fresh) }
-{
-    if is_of_pair(word) {
-        read_cell(word).joined()
-    } else {
-        unpack_cell(word)?.joined()
-    }
-}
-
 /// Whether this is the word of a row that is committed with a partner. Such a word has no bits but of what it says,
 /// and any numbers stand for something: only its stamp can be out of range.
 fn is_of_pair(word: u64) -> bool
-    ensures { result ≡ is_some (option_and_then (λ j. j.partner) (joined_of (unwrap_or (cell_of word) Fresh))) }
+    ensures { result ≡ is_some (partner_by word) }
 {
     let state = word % 8;
     let stamp = word >> 26;
@@ -295,6 +322,21 @@ fn is_of_pair(word: u64) -> bool
         return false;
     }
     stamp > 0 && stamp >> 32 == 0
+}
+
+/// How a row of such a word is committed: its own offer, its partner with the offer of that, and the stamp.
+fn read_pair(word: u64) -> (u8, (Row, u8), u32)
+    requires { is_some (partner_by word) ≡ true }
+    ensures { joined_by word ≡ Some (record { own = result.0; partner = Some result.1; stamp = result.2 }) }
+{
+    let own = (word >> 3) % 8;
+    let partner = Row {
+        thread: ((word >> 20) % 64) as u8,
+        sync: ((word >> 10) % 1024) as u32,
+    };
+    let chosen = (word >> 7) % 8;
+    let stamp = (word >> 26) % (1 << 32);
+    (own as u8, (partner, chosen as u8), stamp as u32)
 }
 
 /// Whether a row with this partner is committed with this row.

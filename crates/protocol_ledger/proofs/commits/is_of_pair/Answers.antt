@@ -1,6 +1,7 @@
 use Rattle.std.proofs.Common.{◌≡◌, ℕ, ◌<◌, ◌≤◌, ◌%◌, ◌/◌, ◌^◌, true, false, ◌⊎◌, ⊎_elim, sym, ◌∙◌, arith, is_some}
 use Rattle.std.proofs.lemmas.Bool.{cases_Bool, cases_lt, le-ltb, eq-eqb, ne_eqb}
-use Rattle.protocol_ledger.proofs.CellWords.{IsPairWord, partner_by, pair_word, pair_only}
+use Rattle.protocol_ledger.specs.CellWords.{partner_by}
+use Rattle.protocol_ledger.proofs.CellWords.{IsPairWord, pair_word, pair_only}
 use Rattle.protocol_ledger.proofs.commits.is_of_pair.Goals as goal
 use Rattle.protocol_ledger.proofs.commits.is_of_pair.Goals.{then-state-lt3-via-then-state-lt3, then-state-lt3-via-else-state-lt3+then-state-gt4, then-state-lt3-via-else-state-lt3+else-state-gt4+then-word-eq0}
 
