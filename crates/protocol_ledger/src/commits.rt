@@ -72,7 +72,7 @@ impl Sheet {
         }
     }
 
-    /// The same of a row that has no partner.
+    /// The same of a row that has no partner, as one that is not committed.
     #[inline(never)]
     fn told_alone(&self, row: Row) -> Option<Commit>
         requires lawful { IsLawful (ledger_of (table_of self.now)) }
@@ -99,15 +99,12 @@ impl Sheet {
         if self.is_committed(partner.0) {
             return None;
         }
-        let partner = Some(partner);
-        self.commit_named(
-            row,
-            Joined {
-                own,
-                partner,
-                stamp,
-            },
-        )
+        let joined = Joined {
+            own,
+            partner: Some(partner),
+            stamp,
+        };
+        self.commit_named(row, joined)
     }
 
     /// The commit of a row that offered a send, and whose partner took it.
