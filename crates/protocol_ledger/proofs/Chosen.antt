@@ -1,7 +1,7 @@
 -- What the law of a table's ledger says of its rows: the offer that a committed row chose is there, and no row behind
 -- a Fresh one is committed.
-use Rattle.std.proofs.Common.{◌≡◌, ℕ, suc, zero, ◌≤◌, true, false, cond, ◌++◌, sym, refl, ap, ◌∙◌, subst, ⊎_elim, arith, Option, Some, None, is_some}
-use Rattle.std.specs.Prelude.{option_to_list}
+use Rattle.std.proofs.Common.{◌≡◌, ℕ, suc, zero, ◌≤◌, Bool, true, false, cond, ◌||◌, ◌++◌, sym, refl, ap, ◌∙◌, subst, ⊎_elim, arith, Option, Some, None, is_some}
+use Rattle.std.specs.Prelude.{is_none, option_and_then, option_to_list}
 use Rattle.std.proofs.lemmas.Bool.{cases_eq, cases_Bool, true≢false}
 use Rattle.std.proofs.lemmas.List.{append-nil}
 use Rattle.protocol_values.specs.declared.Base.{Base}
@@ -14,8 +14,8 @@ use Rattle.protocol_values.specs.declared.Offer.{Offer}
 use Rattle.protocol_values.specs.declared.Commit.{Commit}
 use Rattle.protocol_values.specs.declared.Commit.TheVariants.{Pair, Alone}
 use Rattle.protocol_ledger.specs.Tables.{Table, Marks, marks_at, all_rows, rows_below, cell_at, is_fresh, joined_at, offer_at, names, namer_of}
-use Rattle.protocol_ledger.specs.Ledgers.{ledger_of, Lawful, IsLawful, IsIn, Takes, Offers, IsCaused, Fits, commit_named, commit_by, tells, told_at, told_by, commits_of, pending_of, is_pending}
-use Rattle.protocol_ledger.proofs.Linking.{cases_Option, some_parts, fresh_not_joined, naming}
+use Rattle.protocol_ledger.specs.Ledgers.{ledger_of, Lawful, IsLawful, IsIn, Takes, Offers, IsCaused, Fits, commit_named, commit_by, is_send, tells, told_at, told_by, commits_of, pending_of, is_pending}
+use Rattle.protocol_ledger.proofs.Linking.{cases_Option, none_from, some_parts, fresh_not_joined, naming}
 use Rattle.protocol_ledger.proofs.Readings.{offer_counted, open_of_count}
 use Rattle.protocol_ledger.proofs.CommitLemmas.{named_rows}
 use Rattle.protocol_ledger.proofs.Loops.{commits_push, namer_push, pending_push}
@@ -45,13 +45,28 @@ pub chosen_names : (t : Table) (r : Row) (j : Joined) (own : Offer) → IsLawful
 unfolding commit_named
 chosen_names t r j own law h e = ap (λ (o : Option Offer). is_some (commit_by (offer_at t) r j j.partner o)) (sym e) ∙ (law_at t law).named r j h
 
--- what a row tells, by its own offer
-pub told_own : (joined : Row → Option Joined) (offer : Row → ℕ → Option Offer) (r : Row) (j : Joined) (own : Offer) → joined r ≡ Some j → offer r j.own ≡ Some own → tells joined (Some own) j.partner ≡ true → told_at joined offer r ≡ commit_by offer r j j.partner (Some own)
-unfolding told_at commit_named
-told_own joined offer r j own e o t =
-    ap (told_by joined offer r) e
-    ∙ ap (λ b. cond b (commit_named offer r j) None) (ap (λ (x : Option Offer). tells joined x j.partner) o ∙ t)
-    ∙ ap (commit_by offer r j j.partner) o
+-- what a row tells that is committed
+pub told_joined : (joined : Row → Option Joined) (offer : Row → ℕ → Option Offer) (r : Row) (j : Joined) → joined r ≡ Some j → told_at joined offer r ≡ cond (tells joined (offer r j.own) j.partner) (commit_named offer r j) None
+unfolding told_at
+told_joined joined offer r j e = ap (told_by joined offer r) e
+
+-- one of a pair tells what it names, where it sends or its partner is not committed yet
+pub told_paired : (joined : Row → Option Joined) (offer : Row → ℕ → Option Offer) (r : Row) (j : Joined) (p : Row × ℕ) (sends waits : Bool) → joined r ≡ Some j → j.partner ≡ Some p → is_send (offer r j.own) ≡ sends → is_none (joined p.0) ≡ waits → told_at joined offer r ≡ cond (sends || waits) (commit_named offer r j) None
+told_paired joined offer r j p sends waits e partner f g =
+    told_joined joined offer r j e
+    ∙ (λ i. cond (tells joined (offer r j.own) (partner i)) (commit_named offer r j) None)
+    ∙ (λ i. cond (f i || g i) (commit_named offer r j) None)
+
+-- one that stands alone tells what it names
+pub told_single : (joined : Row → Option Joined) (offer : Row → ℕ → Option Offer) (r : Row) (j : Joined) → joined r ≡ Some j → is_some (option_and_then (λ (k : Joined). k.partner) (joined r)) ≡ false → told_at joined offer r ≡ commit_named offer r j
+told_single joined offer r j e alone =
+    let none : j.partner ≡ None = none_from j.partner (sym (ap (λ (o : Option Joined). is_some (option_and_then (λ (k : Joined). k.partner) o)) e) ∙ alone) in
+    told_joined joined offer r j e ∙ (λ i. cond (tells joined (offer r j.own) (none i)) (commit_named offer r j) None)
+
+-- a row that is not committed tells none
+pub told_unjoined : (joined : Row → Option Joined) (offer : Row → ℕ → Option Offer) (r : Row) → joined r ≡ None → told_at joined offer r ≡ None
+unfolding told_at
+told_unjoined joined offer r e = ap (told_by joined offer r) e
 
 -- a row that a commit takes is opened
 taken_open : (t : Table) (r : Row) (c : Commit) (n : ℕ) → IsLawful (ledger_of t) → IsIn (joined_at t) (offer_at t) c → Takes c r n → is_fresh (cell_at t r) ≡ false
@@ -71,6 +86,13 @@ taken_open t r c n law h k = open_of_count t r n (offer_counted t r n (by_commit
         (λ (e : v ≡ (r, n)). there v (Recv chan) f.2 e)
         k
     by_commit (Alone at why stamp) f k = by_cause at why f k
+
+-- the partner of a committed row is opened
+pub partner_is_open : (t : Table) (r : Row) (j : Joined) (p : Row × ℕ) → IsLawful (ledger_of t) → joined_at t r ≡ Some j → j.partner ≡ Some p → is_fresh (cell_at t p.0) ≡ false
+partner_is_open t r j p law is e =
+    let c = some_parts (commit_named (offer_at t) r j) ((law_at t law).named r j is) in
+    let member : IsIn (joined_at t) (offer_at t) c.0 = record { row = r; way = j; is_joined = is; is_named = c.1 } in
+    taken_open t p.0 c.0 p.1 law member ((named_rows (offer_at t) r j c.0 c.1).other p e)
 
 -- no row names a Fresh one
 pub fresh_unnamed : (t : Table) (r : Row) → IsLawful (ledger_of t) → is_fresh (cell_at t r) ≡ true → (q : Row) → names (joined_at t q) r ≡ false

@@ -7,6 +7,7 @@ pub mod Places
 pub mod Reaching
 pub mod Readings
 pub mod Naming
+pub mod CellWords
 pub mod Keeping
 pub mod Beginning
 pub mod LedgerLemmas

@@ -3,6 +3,7 @@ pub mod Tables
 pub mod Worlds
 pub mod Ledgers
 pub mod Stamps
+pub mod CellWords
 pub mod Kept
 pub mod Growing
 pub mod Standing

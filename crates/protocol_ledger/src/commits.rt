@@ -1,13 +1,14 @@
 //! The commits that a sheet's words name.
 
-ghost use Rattle.std.specs.Prelude.{◌≡◌, ◌≤◌, ◌++◌, IfOk, IsOk, IfSome, IfNone, Some, true, is_some, option_and_then, option_to_list};
+ghost use Rattle.std.specs.Prelude.{◌≡◌, ◌≤◌, ◌<◌, ◌++◌, IfOk, IsOk, IfSome, IfNone, Some, true, false, is_some, option_and_then, option_to_list};
 ghost use Rattle.std.specs.List.{flat_map};
-ghost use Rattle.protocol_ledger.specs.Tables.{all_rows, rows_below, cell_at, joined_at, offer_at, namer_of, is_partner};
-ghost use Rattle.protocol_ledger.specs.Ledgers.{alone_by, pair_by, commit_by, commit_named, named_at, commit_at, told_at, tells, sends, commits_of, pending_of, is_pending, ledger_of, IsLawful};
+ghost use Rattle.protocol_ledger.specs.Tables.{all_rows, rows_below, cell_at, is_fresh, is_row, word_at, joined_at, offer_at, namer_of, is_partner};
+ghost use Rattle.protocol_ledger.specs.Ledgers.{alone_by, pair_by, commit_by, commit_named, named_at, commit_at, told_at, is_send, commits_of, pending_of, is_pending, ledger_of, IsLawful};
 ghost use Rattle.protocol_ledger.specs.Sheets.{table_of};
+ghost use Rattle.protocol_ledger.specs.CellWords.{joined_by, partner_by};
 
 use crate::sheet::{Sheet, is_fresh};
-use protocol_values::{Base, Cause, Cell, Commit, Joined, Offer, Row};
+use protocol_values::{Base, Cause, Cell, Commit, Joined, Offer, Row, unpack_cell};
 use std::alloc::AllocError;
 
 impl Sheet {
@@ -57,31 +58,86 @@ impl Sheet {
         }
     }
 
-    /// The commit that is told of a row with this cell, so that each commit is told once. Of a row that
-    /// received from one that is committed nothing more is read.
-    #[tactic(auto, unfolding(crate::specs::Ledgers::told_at))]
-    fn told(&self, row: Row, cell: Cell) -> Option<Commit>
+    /// The commit that is told of a row with this word, so that each commit is told once.
+    fn told(&self, row: Row, word: u64) -> Option<Commit>
         requires lawful { IsLawful (ledger_of (table_of self.now)) }
-        requires cell { cell_at (table_of self.now) row ≡ cell }
+        requires row { is_row (table_of self.now) row ≡ true }
+        requires word { word ≡ word_at (table_of self.now) row 0 }
         ensures { result ≡ told_at (joined_at (table_of self.now)) (offer_at (table_of self.now)) row }
     {
-        let joined = cell.joined()?;
-        let own = self.known_offer(row, joined.own);
-        if self.tells(own, joined.partner) {
-            self.commit_by(row, joined, own)
+        if is_of_pair(word) {
+            self.told_of_pair(row, word)
         } else {
-            None
+            self.told_alone(row)
         }
     }
 
-    /// Whether a row with this offer and this partner tells its commit.
-    fn tells(&self, own: Offer, partner: Option<(Row, u8)>) -> bool
-        ensures { result ≡ tells (joined_at (table_of self.now)) (Some own) partner }
+    /// The same of a row that has no partner, as one that is not committed.
+    #[inline(never)]
+    fn told_alone(&self, row: Row) -> Option<Commit>
+        requires lawful { IsLawful (ledger_of (table_of self.now)) }
+        requires alone { is_some (option_and_then (λ j. j.partner) (joined_at (table_of self.now) row)) ≡ false }
+        ensures { result ≡ told_at (joined_at (table_of self.now)) (offer_at (table_of self.now)) row }
     {
-        match partner {
-            None => true,
-            Some((partner, _)) => sends(own.base) || self.joined(partner).is_none(),
+        let joined = self.joined(row)?;
+        self.commit_named(row, joined)
+    }
+
+    /// The same of a row that has a partner. Of one that received from a row that is committed no more is read than
+    /// one word of its offer.
+    fn told_of_pair(&self, row: Row, word: u64) -> Option<Commit>
+        requires lawful { IsLawful (ledger_of (table_of self.now)) }
+        requires row { is_row (table_of self.now) row ≡ true }
+        requires word { word ≡ word_at (table_of self.now) row 0 }
+        requires pair { is_some (partner_by word) ≡ true }
+        ensures { result ≡ told_at (joined_at (table_of self.now)) (offer_at (table_of self.now)) row }
+    {
+        let (own, partner, stamp) = read_pair(word);
+        if self.is_send(row, own) {
+            return self.sent(row, own, partner, stamp);
         }
+        if self.is_committed(partner.0) {
+            return None;
+        }
+        let joined = Joined {
+            own,
+            partner: Some(partner),
+            stamp,
+        };
+        self.commit_named(row, joined)
+    }
+
+    /// The commit of a row that offered a send, and whose partner took it.
+    fn sent(&self, row: Row, own: u8, partner: (Row, u8), stamp: u32) -> Option<Commit>
+        requires { is_send (offer_at (table_of self.now) row own) ≡ true }
+        ensures { result ≡ commit_named (offer_at (table_of self.now)) row (record { own = own; partner = Some partner; stamp = stamp }) }
+    {
+        match self.known_offer(row, own).base {
+            Base::Send(chan, msg) => Some(Commit::Pair {
+                sender: (row, own),
+                receiver: partner,
+                chan,
+                msg,
+                stamp,
+            }),
+            _ => None,
+        }
+    }
+
+    /// Whether an offer that a row is known to have is a send, by the first of its words.
+    fn is_send(&self, row: Row, n: u8) -> bool
+        requires { is_some (offer_at (table_of self.now) row n) ≡ true }
+        ensures { result ≡ is_send (offer_at (table_of self.now) row n) }
+    {
+        self.word(row, 2 + 4 * usize::from(n)) % 8 == 1
+    }
+
+    /// Whether a row that is known to be opened is committed, by the state in its word.
+    fn is_committed(&self, row: Row) -> bool
+        requires { is_fresh (cell_at (table_of self.now) row) ≡ false }
+        ensures { result ≡ is_some (joined_at (table_of self.now) row) }
+    {
+        self.cell_word(row) % 8 > 2
     }
 
     /// The commit that the row is in. No commit has a Fresh row.
@@ -163,7 +219,8 @@ impl Sheet {
 
     /// Adds the commits of a thread, row by row. No row behind a Fresh one is committed.
     fn tell(&self, thread: u8, commits: &mut Vec<Commit>) -> Result<(), AllocError>
-        requires { IsLawful (ledger_of (table_of self.now)) }
+        requires lawful { IsLawful (ledger_of (table_of self.now)) }
+        requires thread { thread < self.now.threads }
         ensures { IsOk result → commits.new.items ≡ commits.old.items ++ commits_of (rows_below thread self.now.rows) (joined_at (table_of self.now)) (offer_at (table_of self.now)) }
     {
         for sync in 0..self.rows {
@@ -171,11 +228,11 @@ impl Sheet {
                 thread,
                 sync: sync as u32,
             };
-            let cell = self.cell(row);
-            if is_fresh(cell) {
+            let word = self.cell_word(row);
+            if word == 0 {
                 return Ok(());
             }
-            if let Some(commit) = self.told(row, cell) {
+            if let Some(commit) = self.told(row, word) {
                 commits.push(commit)?;
             }
         }
@@ -251,10 +308,32 @@ fn alone_commit(row: Row, joined: Joined, base: Base) -> Option<Commit>
     })
 }
 
-fn sends(base: Base) -> bool
-    ensures { result ≡ sends base }
+/// Whether this is the word of a row that is committed with a partner. Such a word has no bits but of what it says,
+/// and any numbers stand for something: only its stamp can be out of range.
+fn is_of_pair(word: u64) -> bool
+    ensures { result ≡ is_some (partner_by word) }
 {
-    matches!(base, Base::Send(_, _))
+    let state = word % 8;
+    let stamp = word >> 26;
+    if state < 3 || state > 4 || (word >> 6) % 2 == 0 {
+        return false;
+    }
+    stamp > 0 && stamp >> 32 == 0
+}
+
+/// How a row of such a word is committed: its own offer, its partner with the offer of that, and the stamp.
+fn read_pair(word: u64) -> (u8, (Row, u8), u32)
+    requires { is_some (partner_by word) ≡ true }
+    ensures { joined_by word ≡ Some (record { own = result.0; partner = Some result.1; stamp = result.2 }) }
+{
+    let own = (word >> 3) % 8;
+    let partner = Row {
+        thread: ((word >> 20) % 64) as u8,
+        sync: ((word >> 10) % 1024) as u32,
+    };
+    let chosen = (word >> 7) % 8;
+    let stamp = (word >> 26) % (1 << 32);
+    (own as u8, (partner, chosen as u8), stamp as u32)
 }
 
 /// Whether a row with this partner is committed with this row.

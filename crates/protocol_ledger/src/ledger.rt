@@ -105,9 +105,8 @@ impl Ledger {
         ensures lawful { IsLawful self.now }
     {
         let told = self.sheet.commits()?;
-        let mut commits = nearly_by_stamp(told, self.sheet.opening)?;
-        // Those of a first table are in order now, except where a pair is pending: this looks at each once, and
-        // moves few.
+        let mut commits = nearly_by_stamp(told)?;
+        // They are mostly in order now, except where a pair is pending: this looks at each once, and moves few.
         commits.sort_by_key(|commit| commit.order())?;
         Ok(commits)
     }

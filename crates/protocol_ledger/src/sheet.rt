@@ -141,7 +141,7 @@ impl Sheet {
     }
 
     /// The row's word at a place, 0 where a short row has none.
-    fn word(&self, row: Row, place: usize) -> u64
+    pub(crate) fn word(&self, row: Row, place: usize) -> u64
         requires row { is_row (table_of self.now) row ≡ true }
         requires place { place < 34 }
         ensures { result ≡ word_at (table_of self.now) row place }
@@ -153,6 +153,15 @@ impl Sheet {
         self.words[at]
     }
 
+    /// The word of the row's cell.
+    pub(crate) fn cell_word(&self, row: Row) -> u64
+        requires { is_row (table_of self.now) row ≡ true }
+        ensures { result ≡ word_at (table_of self.now) row 0 }
+    {
+        let at = self.place(row, 0);
+        self.words[at]
+    }
+
     /// The row's cell. A row that the table has not is Fresh.
     #[tactic(auto, unfolding(crate::specs::Tables::cell_at))]
     pub fn cell(&self, row: Row) -> Cell
@@ -161,7 +170,7 @@ impl Sheet {
         if !self.contains(row) {
             return Cell::Fresh;
         }
-        unpack_cell(self.word(row, 0)).unwrap_or(Cell::Fresh)
+        unpack_cell(self.cell_word(row)).unwrap_or(Cell::Fresh)
     }
 
     /// How many offers an opened row has: 0 to 8.

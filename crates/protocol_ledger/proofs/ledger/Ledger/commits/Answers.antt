@@ -5,12 +5,9 @@ use Rattle.protocol_values.specs.Commits.{order_of}
 use Rattle.protocol_ledger.specs.Ledgers.{Ledger, commits_in, HasCommit, IsLawful}
 use Rattle.protocol_ledger.specs.Sheets.{table_of}
 use Rattle.protocol_ledger.proofs.LedgerReadings.{members_in_ledger}
-use Rattle.protocol_ledger.proofs.StampLemmas.{few_stamps, moved_in_ledger}
+use Rattle.protocol_ledger.proofs.StampLemmas.{moved_in_ledger}
 use Rattle.protocol_ledger.proofs.Ordering.{causal_ledger}
 use Rattle.protocol_ledger.proofs.ledger.Ledger.commits.Goals as goal
-
-pub nearly_by_stamp-requires : goal.nearly_by_stamp-requires
-nearly_by_stamp-requires c first = few_stamps (table_of c.self.inside.sheet) first c.self.invariant _ c.in_ok-told.ensures
 
 pub returns-clause-once : goal.returns-clause-once
 returns-clause-once c =

@@ -8,7 +8,9 @@ use Rattle.protocol_ledger.specs.Tables.{rows_below, is_fresh, cell_at, joined_a
 use Rattle.protocol_ledger.specs.Ledgers.{commits_of, told_at}
 use Rattle.protocol_ledger.specs.Sheets.{table_of}
 use Rattle.protocol_ledger.proofs.Loops.{commits_row}
+use Rattle.protocol_ledger.proofs.CellWords.{zero_fresh}
 use Rattle.protocol_ledger.proofs.Chosen.{commits_end}
+use Rattle.protocol_ledger.proofs.Places.{row_from}
 use Rattle.protocol_ledger.proofs.sheet.Sheet.tell.Goals as goal
 use Rattle.protocol_ledger.proofs.sheet.Sheet.tell.Goals.{in-Some+in_ok-push, in_default}
 
@@ -35,10 +37,18 @@ loop-sync-preserved c =
           ∙ append-nil (commits_of (rows_below c.args.thread c.loop-sync.sync) (joined_at t) (offer_at t))))
     ]
 
-pub returns-then-is_fresh : goal.returns-then-is_fresh
-returns-then-is_fresh c = λ ok.
+pub cell_word-word-requires : goal.cell_word-word-requires
+cell_word-word-requires c = row_from (table_of c.args.self.now) (record { thread = c.args.thread; sync = c.loop-sync.sync }) c.requires.thread (omega (arith, c.loop-sync-test.true))
+
+pub told-requires-clause-row : goal.told-requires-clause-row
+told-requires-clause-row c = row_from (table_of c.args.self.now) (record { thread = c.args.thread; sync = c.loop-sync.sync }) c.requires.thread (omega (arith, c.loop-sync-test.true))
+
+pub returns-then-word-eq0 : goal.returns-then-word-eq0
+returns-then-word-eq0 c = λ ok.
     let t = table_of c.args.self.now in
-    let fresh : is_fresh (cell_at t (record { thread = c.args.thread; sync = c.loop-sync.sync })) ≡ true = ap is_fresh (sym c.cell-cell.ensures) ∙ sym c.is_fresh.ensures ∙ c.if-is_fresh.true in
+    let r : Row = record { thread = c.args.thread; sync = c.loop-sync.sync } in
+    let row = row_from t r c.requires.thread (omega (arith, c.loop-sync-test.true)) in
+    let fresh : is_fresh (cell_at t r) ≡ true = zero_fresh t r row (sym c.cell_word-word.ensures ∙ c.if-word-eq0.true) in
     let before : c.loop-sync.sync ≤ t.rows = omega (arith, c.loop-sync-test.true) in
     c.loop-sync.invariant
-    ∙ ap (λ (cs : List Commit). c.args.commits.now.items ++ cs) (sym (commits_end t c.args.thread c.loop-sync.sync t.rows c.requires fresh before))
+    ∙ ap (λ (cs : List Commit). c.args.commits.now.items ++ cs) (sym (commits_end t c.args.thread c.loop-sync.sync t.rows c.requires.lawful fresh before))
