@@ -14,6 +14,7 @@ use std::sync::atomic::{AtomicBool, AtomicUsize, Ordering};
 /// the lanes and the queues.
 #[derive(Drop)]
 pub struct Activity {
+    workers: usize,
     active: AtomicUsize,
     stopped: AtomicBool,
 }
@@ -22,6 +23,7 @@ impl Activity {
     /// So many workers, all active.
     pub fn new(workers: usize) -> Activity {
         Activity {
+            workers,
             active: AtomicUsize::new(workers),
             stopped: AtomicBool::new(false),
         }
@@ -45,6 +47,12 @@ impl Activity {
             backoff.snooze();
         }
         self.is_stopped()
+    }
+
+    /// Whether some worker is idle at the moment.
+    #[inline(always)]
+    pub(crate) fn has_idle(&self) -> bool {
+        self.active.load(Ordering::SeqCst) < self.workers
     }
 
     /// An idle worker becomes active, before it looks for a row.
