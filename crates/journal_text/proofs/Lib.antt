@@ -1,5 +1,6 @@
 pub mod Lookup
 pub mod Chains
+mod Blocks
 pub mod Naming
 pub mod Lines
 pub mod Journals

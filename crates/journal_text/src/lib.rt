@@ -83,6 +83,9 @@ fn blank_line(alloc: Global, labels: Option<&Labels<'_>>) -> Result<Vec<u8>, All
     Ok(line)
 }
 
+/// How long a line is, more or less. So much room is asked for at once, for each line.
+const USUAL_LINE: usize = 48;
+
 /// The lines of the commits in their order, with the labels, or with numbers where there are none.
 fn write_lines(
     alloc: Global,
@@ -92,7 +95,8 @@ fn write_lines(
     ensures { IfOk result (λ text. text.items ≡ commits_text (naming_of labels.entry) commits.now) }
 {
     let mut line = blank_line(alloc, labels)?;
-    let mut out = Vec::new(alloc);
+    let room = commits.len().saturating_mul(USUAL_LINE);
+    let mut out = Vec::with_capacity(alloc, room)?;
     for commit in commits {
         let from = put_line(&mut line, labels, commit);
         out.extend_from_slice(&line[from..])?;

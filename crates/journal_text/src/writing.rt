@@ -4,12 +4,12 @@
 //! Each function writes what it names in front of the place at which it is told that the line begins, and
 //! returns where the line begins then.
 
-ghost use Rattle.std.specs.Prelude.{◌≡◌, ◌++◌, ◌∷◌, ◌+◌, ◌*◌, ◌≤◌, [], length, drop, codes};
+ghost use Rattle.std.specs.Prelude.{◌≡◌, ◌++◌, ◌∷◌, ◌+◌, ◌-◌, ◌*◌, ◌≤◌, [], IfSome, length, drop, codes};
 ghost use Rattle.std.specs.Fmt.{decimal};
 ghost use Rattle.journal_text.specs.Labels.{reach, naming_of};
 ghost use Rattle.journal_text.specs.Texts.{place_text, nack_text, atom_text, message_text, cause_text, commit_text, commit_line};
 
-use crate::labels::Labels;
+use crate::labels::{BLOCK, Block, Labels};
 use itoa::write_digits;
 use protocol_values::{Atom, Cause, Commit, Message, NackName, Row};
 
@@ -43,6 +43,31 @@ fn put_text(line: &mut [u8], at: usize, text: &[u8]) -> usize
     from
 }
 
+/// A name that is not longer than its block, by all of the block.
+#[inline(always)]
+fn put_block(line: &mut [u8], at: usize, block: &Block, len: usize) -> usize
+    requires { (32 ≤ at) × (at ≤ length line.old) × (len ≤ 32) }
+    ensures text { drop result line.new ≡ drop (32 - len) block.now ++ drop at line.old }
+    ensures width { at ≡ result + len }
+{
+    line[at - BLOCK..at].copy_from_slice(block);
+    at - len
+}
+
+/// A name, by its block where it has one and is not longer.
+#[inline(always)]
+fn put_name(line: &mut [u8], at: usize, name: &[u8], block: Option<&Block>) -> usize
+    requires room { (32 ≤ at) × (length name.now ≤ at) × (at ≤ length line.old) }
+    requires ends { IfSome block (λ b. length name.now ≤ 32 → drop (32 - length name.now) b.now ≡ name.now) }
+    ensures text { drop result line.new ≡ name.now ++ drop at line.old }
+    ensures width { at ≡ result + length name.now }
+{
+    match block {
+        Some(block) if name.len() <= BLOCK => put_block(line, at, block, name.len()),
+        _ => put_text(line, at, name),
+    }
+}
+
 #[inline(always)]
 fn put_small(line: &mut [u8], at: usize, number: u16) -> usize
     requires { (5 ≤ at) × (at ≤ length line.old) }
@@ -69,7 +94,10 @@ fn put_thread(line: &mut [u8], at: usize, labels: Option<&Labels<'_>>, thread: u
 {
     match labels {
         Some(labels) => match labels.threads.get(usize::from(thread)) {
-            Some(name) => put_text(line, at, name.as_bytes()),
+            Some(name) => {
+                let block = labels.thread_blocks.get(usize::from(thread));
+                put_name(line, at, name.as_bytes(), block)
+            }
             None => at,
         },
         None => put_small(line, at, u16::from(thread)),
@@ -84,7 +112,10 @@ fn put_channel(line: &mut [u8], at: usize, labels: Option<&Labels<'_>>, chan: u8
 {
     match labels {
         Some(labels) => match labels.channels.get(usize::from(chan)) {
-            Some(name) => put_text(line, at, name.as_bytes()),
+            Some(name) => {
+                let block = labels.channel_blocks.get(usize::from(chan));
+                put_name(line, at, name.as_bytes(), block)
+            }
             None => at,
         },
         None => put_small(line, at, u16::from(chan)),
