@@ -293,7 +293,11 @@ impl Sheet {
             return NackWord::Unbound;
         }
         let at = self.nack_place(nack);
-        unpack_nack(self.words[at]).unwrap_or(NackWord::Unbound)
+        let word = self.words[at];
+        if word == 0 {
+            return NackWord::Unbound;
+        }
+        unpack_nack(word).unwrap_or(NackWord::Unbound)
     }
 
     /// The stamp at which the nack was enabled: an earlier table's, or that of its own row, where it
