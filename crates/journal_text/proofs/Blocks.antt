@@ -25,14 +25,14 @@ pub one_more : (names blocks : List (List ℕ)) (name block : List ℕ) → leng
     (length name ≤ 32 → drop (32 - length name) block ≡ name) → AreEnds (names ++ name ∷ []) (blocks ++ block ∷ [])
 one_more names blocks name block same ends last k other its is has few = ⊎_elim
     (λ (here : k ≡ length names).
-        let name_is : name ≡ other = same_Some name other (sym (slice_get-last names name) ∙ ap (slice_get (names ++ name ∷ [])) (sym here) ∙ is) in
-        let block_is : block ≡ its = same_Some block its (sym (slice_get-last blocks block) ∙ ap (slice_get (blocks ++ block ∷ [])) (sym (here ∙ same)) ∙ has) in
-        subst (λ (p : List ℕ × List ℕ). drop (32 - length p.0) p.1 ≡ p.0) (λ i. (name_is i, block_is i)) (last (subst (λ (n : List ℕ). length n ≤ 32) (sym name_is) few)))
+    let name_is : name ≡ other = same_Some name other (sym (slice_get-last names name) ∙ ap (slice_get (names ++ name ∷ [])) (sym here) ∙ is) in
+    let block_is : block ≡ its = same_Some block its (sym (slice_get-last blocks block) ∙ ap (slice_get (blocks ++ block ∷ [])) (sym (here ∙ same)) ∙ has) in
+    subst (λ (p : List ℕ × List ℕ). drop (32 - length p.0) p.1 ≡ p.0) (λ i. (name_is i, block_is i)) (last (subst (λ (n : List ℕ). length n ≤ 32) (sym name_is) few)))
     (λ ne.
-        let within = slice_get_within (names ++ name ∷ []) k other is in
-        let first : k < length names = omega (arith, within, ne, length-append names (name ∷ [])) in
-        let firsts : k < length blocks = omega (arith, first, same) in
-        ends k other its (sym (slice_get-first names (name ∷ []) k first) ∙ is) (sym (slice_get-first blocks (block ∷ []) k firsts) ∙ has) few)
+    let within = slice_get_within (names ++ name ∷ []) k other is in
+    let first : k < length names = omega (arith, within, ne, length-append names (name ∷ [])) in
+    let firsts : k < length blocks = omega (arith, first, same) in
+    ends k other its (sym (slice_get-first names (name ∷ []) k first) ∙ is) (sym (slice_get-first blocks (block ∷ []) k firsts) ∙ has) few)
     (cases_eq k (length names))
 
 -- a block that is found under a name's number ends with the name

@@ -16,11 +16,10 @@ loop-name-preserved c =
     let items : c.push.new.self.items ≡ blocks ++ block ∷ [] = c.in_ok-push.ensures.items in
     let before : List (List ℕ) = texts (take n names) in
     let more : texts (take (n + 1) names) ≡ before ++ name ∷ [] =
-        ap texts (take_more names n (record { ref_ptr = (0, 0); now = [] }) less) ∙ map-append (λ name. name.now) (take n names) _
-        ∙ ap (λ (x : List ℕ). before ++ x ∷ []) (sym c.as_bytes.ensures.value) in
+    ap texts (take_more names n (record { ref_ptr = (0, 0); now = [] }) less) ∙ map-append (λ name. name.now) (take n names) _
+    ∙ ap (λ (x : List ℕ). before ++ x ∷ []) (sym c.as_bytes.ensures.value) in
     let count : length before ≡ length blocks = length-map (take n names) (λ name. name.now) ∙ length-take-le n names (omega (arith, less)) ∙ sym c.loop-name.invariant.0 in
-    let ends = one_more before blocks name block count c.loop-name.invariant.1 c.block_of.ensures in
-    (
+    let ends = one_more before blocks name block count c.loop-name.invariant.1 c.block_of.ensures in (
       ap length items ∙ length-append blocks (block ∷ []) ∙ ap (λ (k : ℕ). k + 1) c.loop-name.invariant.0,
       subst (λ (z : List (List ℕ) × List (List ℕ)). AreEnds z.0 z.1) (λ i. (sym more i, sym items i)) ends,
     )
