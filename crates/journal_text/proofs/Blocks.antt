@@ -6,7 +6,7 @@ use Rattle.std.proofs.lemmas.List.{drop-append-le, length-append, take-append-dr
 use Rattle.std.proofs.lemmas.Option.{same_Some, slice_get-get_or, slice_get_within}
 use Rattle.journal_replay.proofs.Lists.{slice_get-first, slice_get-last}
 use Rattle.script_reader.specs.Places.{texts}
-use Rattle.journal_text.specs.Names.{AreEnds}
+use Rattle.journal_text.specs.Blocks.{AreEnds}
 use Rattle.journal_text.proofs.Chains.{texts_length}
 use denote.Bor.{Bor}
 

@@ -1,6 +1,7 @@
 pub mod Names
 pub mod Texts
 pub mod Slots
+pub mod Blocks
 pub mod Labels
 pub mod Journals
 pub mod Reading

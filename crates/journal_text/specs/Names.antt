@@ -1,5 +1,5 @@
 -- How the threads and the channels of a text are named.
-use Rattle.std.specs.Prelude.{◌≡◌, ℕ, ◌-◌, ◌≤◌, List, [], drop, map, length, get_or, Some, slice_get}
+use Rattle.std.specs.Prelude.{ℕ, ◌≤◌, List, [], map, length, get_or}
 use Rattle.std.specs.Fmt.{decimal}
 use Rattle.script.specs.Sources.{Script}
 
@@ -26,11 +26,6 @@ naming d = record { thread = λ t. get_or d.threads t []; channel = λ c. get_or
 -- how a script names its threads and channels
 abbrev pub named : Script → Naming
 named s = naming (names_of s)
-
--- each name of at most 32 bytes stands at the end of its block
-abbrev pub AreEnds : List (List ℕ) → List (List ℕ) → Type 0
-AreEnds names blocks =
-    (k : ℕ) (name block : List ℕ) → slice_get names k ≡ Some name → slice_get blocks k ≡ Some block → length name ≤ 32 → drop (32 - length name) block ≡ name
 
 -- none of the names is longer
 abbrev pub AreWithin : ℕ → List (List ℕ) → Type 0

@@ -4,7 +4,8 @@ ghost use Rattle.std.specs.Prelude.{◌≡◌, ◌≤◌, ◌-◌, IfOk, drop, l
 ghost use Rattle.std.specs.List.{AllByRecursion};
 ghost use Rattle.std.proofs.Props.{props};
 ghost use Rattle.script_reader.specs.Places.{texts};
-ghost use Rattle.journal_text.specs.Names.{AreEnds, AreWithin};
+ghost use Rattle.journal_text.specs.Blocks.{AreEnds};
+ghost use Rattle.journal_text.specs.Names.{AreWithin};
 
 use crate::names::{channel_names, thread_names};
 use script::Script;

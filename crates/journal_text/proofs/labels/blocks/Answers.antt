@@ -1,7 +1,7 @@
 use Rattle.std.proofs.Common.{◌≡◌, ◌≤◌, ◌-◌, ◌++◌, ◌∷◌, ◌+◌, ◌∙◌, [], ℕ, List, ap, arith, drop, length, subst, sym, take}
 use Rattle.std.proofs.lemmas.List.{length-append, length-map, length-take-le, map-append, take_more}
 use Rattle.script_reader.specs.Places.{texts}
-use Rattle.journal_text.specs.Names.{AreEnds}
+use Rattle.journal_text.specs.Blocks.{AreEnds}
 use Rattle.journal_text.proofs.Blocks.{one_more}
 use Rattle.journal_text.proofs.labels.blocks.Goals as goal
 

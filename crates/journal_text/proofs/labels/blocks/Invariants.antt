@@ -1,6 +1,6 @@
 use Rattle.std.proofs.Common.{◌≡◌, length, take}
 use Rattle.script_reader.specs.Places.{texts}
-use Rattle.journal_text.specs.Names.{AreEnds}
+use Rattle.journal_text.specs.Blocks.{AreEnds}
 use Rattle.journal_text.proofs.labels.blocks.Given as goal
 
 abbrev pub invariant-loop-name : goal.invariant-loop-name
