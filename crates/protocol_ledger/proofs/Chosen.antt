@@ -14,7 +14,7 @@ use Rattle.protocol_values.specs.declared.Offer.{Offer}
 use Rattle.protocol_values.specs.declared.Commit.{Commit}
 use Rattle.protocol_values.specs.declared.Commit.TheVariants.{Pair, Alone}
 use Rattle.protocol_ledger.specs.Tables.{Table, Marks, marks_at, all_rows, rows_below, cell_at, is_fresh, joined_at, offer_at, names, namer_of}
-use Rattle.protocol_ledger.specs.Ledgers.{ledger_of, Lawful, IsLawful, IsIn, Takes, Offers, IsCaused, Fits, commit_named, commit_by, is_send, tells, told_at, told_by, commits_of, pending_of, is_pending}
+use Rattle.protocol_ledger.specs.Ledgers.{ledger_of, Lawful, IsLawful, IsIn, Takes, Offers, IsCaused, Fits, commit_named, commit_by, named_at, is_send, tells, told_at, told_by, commits_of, pending_of, is_pending}
 use Rattle.protocol_ledger.proofs.Linking.{cases_Option, none_from, some_parts, fresh_not_joined, naming}
 use Rattle.protocol_ledger.proofs.Readings.{offer_counted, open_of_count}
 use Rattle.protocol_ledger.proofs.CommitLemmas.{named_rows}
@@ -57,16 +57,21 @@ told_paired joined offer r j p sends waits e partner f g =
     ∙ (λ i. cond (tells joined (offer r j.own) (partner i)) (commit_named offer r j) None)
     ∙ (λ i. cond (f i || g i) (commit_named offer r j) None)
 
--- one that stands alone tells what it names
-pub told_single : (joined : Row → Option Joined) (offer : Row → ℕ → Option Offer) (r : Row) (j : Joined) → joined r ≡ Some j → is_some (option_and_then (λ (k : Joined). k.partner) (joined r)) ≡ false → told_at joined offer r ≡ commit_named offer r j
-told_single joined offer r j e alone =
-    let none : j.partner ≡ None = none_from j.partner (sym (ap (λ (o : Option Joined). is_some (option_and_then (λ (k : Joined). k.partner) o)) e) ∙ alone) in
-    told_joined joined offer r j e ∙ (λ i. cond (tells joined (offer r j.own) (none i)) (commit_named offer r j) None)
-
 -- a row that is not committed tells none
 pub told_unjoined : (joined : Row → Option Joined) (offer : Row → ℕ → Option Offer) (r : Row) → joined r ≡ None → told_at joined offer r ≡ None
 unfolding told_at
 told_unjoined joined offer r e = ap (told_by joined offer r) e
+
+-- and one that has no partner tells what it names
+pub told_single : (joined : Row → Option Joined) (offer : Row → ℕ → Option Offer) (r : Row) → is_some (option_and_then (λ (k : Joined). k.partner) (joined r)) ≡ false → told_at joined offer r ≡ named_at joined offer r
+told_single joined offer r alone = ⊎_elim
+    (λ (e : joined r ≡ None). told_unjoined joined offer r e ∙ sym (ap (option_and_then (commit_named offer r)) e))
+    (λ (j : (j : Joined) × (joined r ≡ Some j)).
+    let none : j.0.partner ≡ None = none_from j.0.partner (sym (ap (λ (o : Option Joined). is_some (option_and_then (λ (k : Joined). k.partner) o)) j.1) ∙ alone) in
+    told_joined joined offer r j.0 j.1
+    ∙ (λ i. cond (tells joined (offer r j.0.own) (none i)) (commit_named offer r j.0) None)
+    ∙ sym (ap (option_and_then (commit_named offer r)) j.1))
+    (cases_Option (joined r))
 
 -- a row that a commit takes is opened
 taken_open : (t : Table) (r : Row) (c : Commit) (n : ℕ) → IsLawful (ledger_of t) → IsIn (joined_at t) (offer_at t) c → Takes c r n → is_fresh (cell_at t r) ≡ false

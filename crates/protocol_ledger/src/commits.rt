@@ -58,53 +58,63 @@ impl Sheet {
         }
     }
 
-    /// The commit that is told of a row with this word, so that each commit is told once.
-    fn told(&self, row: Row, word: u64) -> Option<Commit>
+    /// Whether a row with this word received from a row that is committed, which tells the commit: so each commit is
+    /// told once. Of its offer one word is read.
+    #[inline(always)]
+    fn is_received(&self, row: Row, word: u64) -> bool
         requires lawful { IsLawful (ledger_of (table_of self.now)) }
         requires row { is_row (table_of self.now) row ≡ true }
         requires word { word ≡ word_at (table_of self.now) row 0 }
-        ensures { result ≡ told_at (joined_at (table_of self.now)) (offer_at (table_of self.now)) row }
+        ensures told { result ≡ true → told_at (joined_at (table_of self.now)) (offer_at (table_of self.now)) row ≡ None }
+        ensures tells { result ≡ false → told_at (joined_at (table_of self.now)) (offer_at (table_of self.now)) row ≡ named_at (joined_at (table_of self.now)) (offer_at (table_of self.now)) row }
+    {
+        if !is_of_pair(word) {
+            return false;
+        }
+        let (own, partner, _) = read_pair(word);
+        if self.is_send(row, own) {
+            return false;
+        }
+        self.is_committed(partner.0)
+    }
+
+    /// The commit that a row with this word names.
+    fn named(&self, row: Row, word: u64) -> Option<Commit>
+        requires lawful { IsLawful (ledger_of (table_of self.now)) }
+        requires row { is_row (table_of self.now) row ≡ true }
+        requires word { word ≡ word_at (table_of self.now) row 0 }
+        ensures { result ≡ named_at (joined_at (table_of self.now)) (offer_at (table_of self.now)) row }
     {
         if is_of_pair(word) {
-            self.told_of_pair(row, word)
+            self.named_by_pair(row, word)
         } else {
-            self.told_alone(row)
+            self.named_by_any(row)
         }
     }
 
-    /// The same of a row that has no partner, as one that is not committed.
+    /// The same of any row.
     #[inline(never)]
-    fn told_alone(&self, row: Row) -> Option<Commit>
-        requires lawful { IsLawful (ledger_of (table_of self.now)) }
-        requires alone { is_some (option_and_then (λ j. j.partner) (joined_at (table_of self.now) row)) ≡ false }
-        ensures { result ≡ told_at (joined_at (table_of self.now)) (offer_at (table_of self.now)) row }
+    fn named_by_any(&self, row: Row) -> Option<Commit>
+        requires { IsLawful (ledger_of (table_of self.now)) }
+        ensures { result ≡ named_at (joined_at (table_of self.now)) (offer_at (table_of self.now)) row }
     {
         let joined = self.joined(row)?;
         self.commit_named(row, joined)
     }
 
-    /// The same of a row that has a partner. Of one that received from a row that is committed no more is read than
-    /// one word of its offer.
-    fn told_of_pair(&self, row: Row, word: u64) -> Option<Commit>
+    /// The same of a row that has a partner.
+    fn named_by_pair(&self, row: Row, word: u64) -> Option<Commit>
         requires lawful { IsLawful (ledger_of (table_of self.now)) }
         requires row { is_row (table_of self.now) row ≡ true }
         requires word { word ≡ word_at (table_of self.now) row 0 }
         requires pair { is_some (partner_by word) ≡ true }
-        ensures { result ≡ told_at (joined_at (table_of self.now)) (offer_at (table_of self.now)) row }
+        ensures { result ≡ named_at (joined_at (table_of self.now)) (offer_at (table_of self.now)) row }
     {
         let (own, partner, stamp) = read_pair(word);
         if self.is_send(row, own) {
             return self.sent(row, own, partner, stamp);
         }
-        if self.is_committed(partner.0) {
-            return None;
-        }
-        let joined = Joined {
-            own,
-            partner: Some(partner),
-            stamp,
-        };
-        self.commit_named(row, joined)
+        self.named_by_any(row)
     }
 
     /// The commit of a row that offered a send, and whose partner took it.
@@ -232,7 +242,10 @@ impl Sheet {
             if word == 0 {
                 return Ok(());
             }
-            if let Some(commit) = self.told(row, word) {
+            if self.is_received(row, word) {
+                continue;
+            }
+            if let Some(commit) = self.named(row, word) {
                 commits.push(commit)?;
             }
         }

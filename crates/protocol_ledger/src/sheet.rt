@@ -203,6 +203,7 @@ impl Sheet {
 
     /// Offer n of a row that is known to have it: nothing is tested, and only the atoms that the
     /// offer has are unpacked.
+    #[inline(always)]
     pub(crate) fn known_offer(&self, row: Row, n: u8) -> Offer
         requires { is_some (offer_at (table_of self.now) row n) ≡ true }
         ensures { offer_at (table_of self.now) row n ≡ Some result }
