@@ -9,3 +9,4 @@ pub mod Spawns
 pub mod Startings
 pub mod Turning
 pub mod Widths
+pub mod Windows

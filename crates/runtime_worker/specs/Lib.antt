@@ -1,3 +1,4 @@
 pub mod Machines
 pub mod Widths
+pub mod Windows
 pub mod Workers

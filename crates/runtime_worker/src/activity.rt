@@ -3,17 +3,18 @@
 use crossbeam_utils::Backoff;
 use std::sync::atomic::{AtomicBool, AtomicUsize, Ordering};
 
-/// How many workers are active, and whether all are to stop. It is touched only where a worker becomes idle or
+/// How many workers are active, and whether all are to stop. It is written only where a worker becomes idle or
 /// busy, and not with every turn.
 ///
 /// When the last active worker becomes idle, no row will come. A worker becomes idle only after it found no
-/// row, so its own deque was empty then, and since only it puts rows there, it is empty still. Whoever put a
-/// row into the injector last found the injector empty afterwards. And a turn is under way, or a row is kept
-/// for the next turn, only in a worker that is active: so no turn will put a row in. A thread that is started has
+/// row: it had kept none, and its own deque was empty. Only it puts rows in either, so both are empty still. Whoever
+/// put a row into the injector last found the injector empty afterwards. And a turn is under way, or a row is kept
+/// for a later turn, only in a worker that is active: so no turn will put a row in. A thread that is started has
 /// its first turn within that of the thread that starts it, so of its first row, too, no other worker hears but by
 /// the lanes and the queues.
 #[derive(Drop)]
 pub struct Activity {
+    workers: usize,
     active: AtomicUsize,
     stopped: AtomicBool,
 }
@@ -22,6 +23,7 @@ impl Activity {
     /// So many workers, all active.
     pub fn new(workers: usize) -> Activity {
         Activity {
+            workers,
             active: AtomicUsize::new(workers),
             stopped: AtomicBool::new(false),
         }
@@ -45,6 +47,12 @@ impl Activity {
             backoff.snooze();
         }
         self.is_stopped()
+    }
+
+    /// Whether some worker is idle at the moment.
+    #[inline(always)]
+    pub(crate) fn has_idle(&self) -> bool {
+        self.active.load(Ordering::SeqCst) < self.workers
     }
 
     /// An idle worker becomes active, before it looks for a row.

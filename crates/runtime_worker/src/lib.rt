@@ -7,6 +7,7 @@ mod crew;
 mod following;
 mod gate;
 mod halt;
+mod kept;
 mod nacks;
 mod notes;
 mod ranges;

@@ -30,30 +30,12 @@ use protocol_values::{Cell, Joined, Message, Row};
 use std::sync::Wait;
 use thread::Turn;
 
-/// The rows that a turn committed, or what is left of them.
+/// The rows that a turn committed.
 #[derive(Clone, Copy)]
 pub(crate) enum Committed {
     Nothing,
     Alone(Row),
     Pair(Row, Row),
-}
-
-impl Committed {
-    /// Whether there is some row.
-    pub(crate) fn is_some(&self) -> bool {
-        !matches!(self, Committed::Nothing)
-    }
-
-    /// The first of the rows, which is taken away.
-    pub(crate) fn first(&mut self) -> Option<Row> {
-        let (row, left) = match *self {
-            Committed::Nothing => return None,
-            Committed::Alone(row) => (row, Committed::Nothing),
-            Committed::Pair(row, partner) => (row, Committed::Alone(partner)),
-        };
-        *self = left;
-        Some(row)
-    }
 }
 
 /// A row that was taken: how it was committed, and the message that it got.

@@ -6,6 +6,7 @@ ghost use Rattle.runtime_worker.specs.Workers.{IsLeftOf, IsNewWorkerOf, IsWorker
 use crate::crew::Crew;
 use crate::gate::Gate;
 use crate::halt::Halt;
+use crate::kept::{Kept, MOST_KEPT};
 use crate::resident::{Rest, Suspended};
 use crate::turns::Committed;
 use cell::{Pass, StepGate};
@@ -18,6 +19,14 @@ use std::sync::Wait;
 /// How many snoozes at most lie between two looks of an idle worker. The more there are, the less it disturbs
 /// those that work.
 const MOST_SNOOZES: u32 = 64;
+
+/// With so few rows at least a worker shares what it has kept. A token that goes round leaves two rows ready at once, of
+/// which another worker would gain nothing: all that they touch would have to come over, to and fro.
+const LEAST_TO_SHARE: usize = 3;
+
+/// With each so many turns a worker looks into the ready queues, though it has kept rows: so no row is left there for
+/// ever.
+const TURNS_BETWEEN_LOOKS: u32 = 64;
 
 /// What a worker has for itself: its pass of the cells, the machines at rest, its passes of the lanes, its end of the
 /// ready queues, and its number.
@@ -68,10 +77,16 @@ impl<R: Wait, G: Gate + StepGate> Crew<'_, R, G> {
         ensures { IsWorkerOf self.now worker.new }
     {
         self.begin_all(worker)?;
-        let mut kept = Committed::Nothing;
+        let mut kept = Kept::new();
+        let mut turns = 0u32;
         // Who has often found nothing looks seldom, also after a row was found.
         let mut snoozes = 1;
         for _ in self.rt.forever() {
+            // Before the first of these turns too: what was committed behind the first turns lies there.
+            if turns % TURNS_BETWEEN_LOOKS == 0 {
+                self.fetch_ready(&mut worker.end, &mut kept);
+            }
+            turns = turns.wrapping_add(1);
             let Some(row) = self.next_row(&mut worker.end, &mut kept, &mut snoozes) else {
                 return Ok(());
             };
@@ -81,16 +96,38 @@ impl<R: Wait, G: Gate + StepGate> Crew<'_, R, G> {
         unreachable!()
     }
 
-    /// The row of the next turn: the first that was kept, or else one that is ready. There is none where all workers
+    /// Keeps a row of the ready queues, if there is one, and all that stands in the worker's own deque, as far as there is
+    /// room.
+    #[inline(never)]
+    fn fetch_ready(&self, end: &mut ReadyEnd, kept: &mut Kept)
+        requires { IsEndOf self.now.shared.now.ready end.old }
+        ensures { IsEndOf self.now.shared.now.ready end.new }
+    {
+        for _ in 0..MOST_KEPT {
+            if kept.is_full() {
+                return;
+            }
+            let Some(row) = self.shared.ready.get(self.rt, end) else {
+                return;
+            };
+            kept.push(row);
+            if end.is_clear() {
+                return;
+            }
+        }
+    }
+
+    /// The row of the next turn: the oldest that was kept, or else one that is ready. There is none where all workers
     /// are to stop.
-    fn next_row(&self, end: &mut ReadyEnd, kept: &mut Committed, snoozes: &mut u32) -> Option<Row>
+    #[inline(always)]
+    fn next_row(&self, end: &mut ReadyEnd, kept: &mut Kept, snoozes: &mut u32) -> Option<Row>
         requires { IsEndOf self.now.shared.now.ready end.old }
         ensures { IsEndOf self.now.shared.now.ready end.new }
     {
         if self.shared.activity.is_stopped() {
             return None;
         }
-        if let Some(row) = kept.first() {
+        if let Some(row) = kept.pop() {
             return Some(row);
         }
         if let Some(row) = self.shared.ready.get(self.rt, end) {
@@ -119,26 +156,70 @@ impl<R: Wait, G: Gate + StepGate> Crew<'_, R, G> {
         unreachable!()
     }
 
-    /// The rows that a turn committed are kept for the next turns, where the worker has no other row, neither kept nor
-    /// in its own deque: so none is overtaken, and the order is that of a queue. Where it has one, they are put into the
-    /// ready queues, from which others may take them. A worker that has nothing but a pair so keeps the pair: of two
-    /// that go on in turn, as in a ring, another worker gains nothing, and all that they touch would have to come over.
-    fn keep(
+    /// The rows that a turn committed are kept for the next turns, behind those that are kept already. Where another
+    /// worker is idle, rows are shared.
+    #[inline(always)]
+    fn keep(&self, end: &mut ReadyEnd, kept: &mut Kept, committed: Committed) -> Result<(), Halt>
+        requires { IsEndOf self.now.shared.now.ready end.old }
+        ensures { IsEndOf self.now.shared.now.ready end.new }
+    {
+        self.keep_all(end, kept, committed)?;
+        if kept.len() < LEAST_TO_SHARE || !self.shared.activity.has_idle() {
+            return Ok(());
+        }
+        self.share(end, kept)
+    }
+
+    /// These rows are kept.
+    #[inline(always)]
+    fn keep_all(
         &self,
         end: &mut ReadyEnd,
-        kept: &mut Committed,
+        kept: &mut Kept,
         committed: Committed,
     ) -> Result<(), Halt>
         requires { IsEndOf self.now.shared.now.ready end.old }
         ensures { IsEndOf self.now.shared.now.ready end.new }
     {
-        if kept.is_some() {
-            return self.put_committed(end, committed);
+        match committed {
+            Committed::Nothing => Ok(()),
+            Committed::Alone(row) => self.keep_row(end, kept, row),
+            Committed::Pair(row, partner) => {
+                self.keep_row(end, kept, row)?;
+                self.keep_row(end, kept, partner)
+            }
         }
+    }
+
+    /// The row is kept, or put into the ready queues where there is no room.
+    #[inline(always)]
+    fn keep_row(&self, end: &mut ReadyEnd, kept: &mut Kept, row: Row) -> Result<(), Halt>
+        requires { IsEndOf self.now.shared.now.ready end.old }
+        ensures { IsEndOf self.now.shared.now.ready end.new }
+    {
+        if kept.is_full() {
+            return self.put_ready(end, row);
+        }
+        kept.push(row);
+        Ok(())
+    }
+
+    /// Half of the rows that are kept, the oldest, are put into the ready queues, from which others may take them, where
+    /// what was shared before is taken.
+    #[inline(never)]
+    fn share(&self, end: &mut ReadyEnd, kept: &mut Kept) -> Result<(), Halt>
+        requires { IsEndOf self.now.shared.now.ready end.old }
+        ensures { IsEndOf self.now.shared.now.ready end.new }
+    {
         if !end.is_clear() {
-            return self.put_committed(end, committed);
+            return Ok(());
         }
-        *kept = committed;
+        for _ in 0..kept.len() / 2 {
+            let Some(row) = kept.pop() else {
+                return Ok(());
+            };
+            self.put_ready(end, row)?;
+        }
         Ok(())
     }
 }
