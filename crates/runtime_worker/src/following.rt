@@ -147,8 +147,8 @@ impl<R: Wait, G: StepGate> Crew<'_, R, G> {
         }
     }
 
-    /// Puts the row into the ready queues. Where the end has put as many as it can count, the row is left out: what
-    /// stands in the queues are hints.
+    /// Puts the row into the ready queues, and calls a worker that sleeps. Where the end has put as many as it can count,
+    /// the row is left out: what stands in the queues are hints.
     #[inline(always)]
     pub(crate) fn put_ready(&self, end: &mut ReadyEnd, row: Row) -> Result<(), Halt>
         requires { IsEndOf self.now.shared.now.ready end.old }
@@ -156,6 +156,7 @@ impl<R: Wait, G: StepGate> Crew<'_, R, G> {
     {
         if end.count() < u64::MAX {
             self.shared.ready.put(self.rt, end, row)?;
+            self.shared.activity.call();
         }
         Ok(())
     }

@@ -1,7 +1,7 @@
 //! What is called round each turn of a thread.
 
 /// Is called by the workers round each turn of a thread, with the worker's number and the thread's. A run
-/// waits for a gate that does not return.
+/// waits for a gate that does not return, and so do the rows that the worker has kept for its later turns.
 pub trait Gate {
     /// The worker is about to begin a turn of the thread.
     fn before(&self, worker: u8, thread: u8);

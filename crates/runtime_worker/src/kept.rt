@@ -5,11 +5,13 @@ ghost use Rattle.std.specs.Prelude.{◌≡◌, ◌<◌, ◌≤◌, ◌↔◌, []
 use protocol_values::Row;
 use std::marker::Model;
 
-/// Rows that are ready, 64 at most, in a ring: the first that was put in is the first that is taken out. A script has
-/// 64 threads at most, each with one row that is ready.
+/// How many rows are kept at most. A script has as many threads at most, each with one row that is ready.
+pub(crate) const MOST_KEPT: usize = 64;
+
+/// Rows that are ready, in a ring: the first that was put in is the first that is taken out.
 #[derive(Drop)]
 pub(crate) struct Kept {
-    rows: [Row; 64],
+    rows: [Row; MOST_KEPT],
     oldest: usize,
     count: usize,
 }
@@ -33,7 +35,7 @@ impl Kept {
         ensures { result ≡ [] }
     {
         Kept {
-            rows: [Row { thread: 0, sync: 0 }; 64],
+            rows: [Row { thread: 0, sync: 0 }; MOST_KEPT],
             oldest: 0,
             count: 0,
         }
@@ -53,7 +55,7 @@ impl Kept {
         ensures full { IsTrue result ↔ (length self.now ≡ 64) }
         ensures within { length self.now ≤ 64 }
     {
-        self.count == 64
+        self.count == MOST_KEPT
     }
 
     /// Puts the row behind the others.
@@ -62,7 +64,7 @@ impl Kept {
         requires { length self.old < 64 }
         ensures { self.new ≡ self.old ++ row ∷ [] }
     {
-        self.rows[(self.oldest + self.count) % 64] = row;
+        self.rows[(self.oldest + self.count) % MOST_KEPT] = row;
         self.count += 1;
     }
 
@@ -76,7 +78,7 @@ impl Kept {
             return None;
         }
         let row = self.rows[self.oldest];
-        self.oldest = (self.oldest + 1) % 64;
+        self.oldest = (self.oldest + 1) % MOST_KEPT;
         self.count -= 1;
         Some(row)
     }

@@ -6,7 +6,7 @@ ghost use Rattle.runtime_worker.specs.Workers.{IsLeftOf, IsNewWorkerOf, IsWorker
 use crate::crew::Crew;
 use crate::gate::Gate;
 use crate::halt::Halt;
-use crate::kept::Kept;
+use crate::kept::{Kept, MOST_KEPT};
 use crate::resident::{Rest, Suspended};
 use crate::turns::Committed;
 use cell::{Pass, StepGate};
@@ -16,9 +16,13 @@ use meet_queues::ReadyEnd;
 use protocol_values::Row;
 use std::sync::Wait;
 
-/// How many snoozes at most lie between two looks of an idle worker. The more there are, the less it disturbs
-/// those that work.
-const MOST_SNOOZES: u32 = 64;
+/// With so few rows at least a worker shares what it has kept. A token that goes round leaves two rows ready at once, of
+/// which another worker would gain nothing: all that they touch would have to come over, to and fro.
+const LEAST_TO_SHARE: usize = 3;
+
+/// With each so many turns a worker looks into the ready queues, though it has kept rows: so no row is left there for
+/// ever.
+const TURNS_BETWEEN_LOOKS: u32 = 64;
 
 /// With so few rows at least a worker shares what it has kept. A token that goes round leaves two rows ready at once, of
 /// which another worker would gain nothing: all that they touch would have to come over, to and fro.
@@ -79,15 +83,13 @@ impl<R: Wait, G: Gate + StepGate> Crew<'_, R, G> {
         self.begin_all(worker)?;
         let mut kept = Kept::new();
         let mut turns = 0u32;
-        // Who has often found nothing looks seldom, also after a row was found.
-        let mut snoozes = 1;
         for _ in self.rt.forever() {
             // Before the first of these turns too: what was committed behind the first turns lies there.
             if turns % TURNS_BETWEEN_LOOKS == 0 {
                 self.fetch_ready(&mut worker.end, &mut kept);
             }
             turns = turns.wrapping_add(1);
-            let Some(row) = self.next_row(&mut worker.end, &mut kept, &mut snoozes) else {
+            let Some(row) = self.next_row(&mut worker.end, &mut kept) else {
                 return Ok(());
             };
             let committed = self.advance(worker, row)?;
@@ -103,7 +105,7 @@ impl<R: Wait, G: Gate + StepGate> Crew<'_, R, G> {
         requires { IsEndOf self.now.shared.now.ready end.old }
         ensures { IsEndOf self.now.shared.now.ready end.new }
     {
-        for _ in 0..64 {
+        for _ in 0..MOST_KEPT {
             if kept.is_full() {
                 return;
             }
@@ -120,7 +122,7 @@ impl<R: Wait, G: Gate + StepGate> Crew<'_, R, G> {
     /// The row of the next turn: the oldest that was kept, or else one that is ready. There is none where all workers
     /// are to stop.
     #[inline(always)]
-    fn next_row(&self, end: &mut ReadyEnd, kept: &mut Kept, snoozes: &mut u32) -> Option<Row>
+    fn next_row(&self, end: &mut ReadyEnd, kept: &mut Kept) -> Option<Row>
         requires { IsEndOf self.now.shared.now.ready end.old }
         ensures { IsEndOf self.now.shared.now.ready end.new }
     {
@@ -133,48 +135,94 @@ impl<R: Wait, G: Gate + StepGate> Crew<'_, R, G> {
         if let Some(row) = self.shared.ready.get(self.rt, end) {
             return Some(row);
         }
-        self.wait_for_row(end, snoozes)
+        self.wait_for_row(end)
     }
 
-    /// Waits for a row that is ready, where none was found: the worker is idle but for its looks, between which lie
-    /// so many snoozes, and more with each look that finds nothing. There is none where all workers are to stop.
-    fn wait_for_row(&self, end: &mut ReadyEnd, snoozes: &mut u32) -> Option<Row>
+    /// Waits for a row that is ready, where none was found: the worker is idle but for its looks. It snoozes between the
+    /// first ones, and sleeps between the others. There is none where all workers are to stop.
+    #[inline(never)]
+    fn wait_for_row(&self, end: &mut ReadyEnd) -> Option<Row>
         requires { IsEndOf self.now.shared.now.ready end.old }
         ensures { IsEndOf self.now.shared.now.ready end.new }
     {
         let backoff = Backoff::new();
         for _ in self.rt.forever() {
-            if self.shared.activity.rest() || self.shared.activity.snooze(&backoff, *snoozes) {
-                return None;
+            let row = if backoff.is_completed() {
+                self.sleep(end)
+            } else {
+                self.snooze(end, &backoff)
+            };
+            if row.is_some() || self.shared.activity.is_stopped() {
+                return row;
             }
-            self.shared.activity.wake();
-            if let Some(row) = self.shared.ready.get(self.rt, end) {
-                return Some(row);
-            }
-            *snoozes = snoozes.saturating_mul(2).min(MOST_SNOOZES);
         }
         unreachable!()
     }
 
+    /// The worker is idle for a snooze, and looks.
+    fn snooze(&self, end: &mut ReadyEnd, backoff: &Backoff) -> Option<Row>
+        requires { IsEndOf self.now.shared.now.ready end.old }
+        ensures { IsEndOf self.now.shared.now.ready end.new }
+    {
+        if self.shared.activity.rest() {
+            return None;
+        }
+        backoff.snooze();
+        self.shared.activity.wake();
+        self.shared.ready.get(self.rt, end)
+    }
+
+    /// The worker announces that it is about to sleep, and looks once more; then it is idle, sleeps until it is called,
+    /// and looks.
+    fn sleep(&self, end: &mut ReadyEnd) -> Option<Row>
+        requires { IsEndOf self.now.shared.now.ready end.old }
+        ensures { IsEndOf self.now.shared.now.ready end.new }
+    {
+        let key = self.shared.activity.announce();
+        if let Some(row) = self.shared.ready.get(self.rt, end) {
+            return Some(row);
+        }
+        if self.shared.activity.rest() {
+            return None;
+        }
+        key.wait(self.rt);
+        self.shared.activity.wake();
+        self.shared.ready.get(self.rt, end)
+    }
+
     /// The rows that a turn committed are kept for the next turns, behind those that are kept already. Where another
-    /// worker is idle, and what was shared before is taken, half of them are shared.
+    /// worker is idle, rows are shared.
     #[inline(always)]
     fn keep(&self, end: &mut ReadyEnd, kept: &mut Kept, committed: Committed) -> Result<(), Halt>
         requires { IsEndOf self.now.shared.now.ready end.old }
         ensures { IsEndOf self.now.shared.now.ready end.new }
     {
-        match committed {
-            Committed::Nothing => {}
-            Committed::Alone(row) => self.keep_row(end, kept, row)?,
-            Committed::Pair(row, partner) => {
-                self.keep_row(end, kept, row)?;
-                self.keep_row(end, kept, partner)?;
-            }
-        }
-        if kept.len() < LEAST_TO_SHARE || !self.shared.activity.has_idle() || !end.is_clear() {
+        self.keep_all(end, kept, committed)?;
+        if kept.len() < LEAST_TO_SHARE || !self.shared.activity.has_idle() {
             return Ok(());
         }
         self.share(end, kept)
+    }
+
+    /// These rows are kept.
+    #[inline(always)]
+    fn keep_all(
+        &self,
+        end: &mut ReadyEnd,
+        kept: &mut Kept,
+        committed: Committed,
+    ) -> Result<(), Halt>
+        requires { IsEndOf self.now.shared.now.ready end.old }
+        ensures { IsEndOf self.now.shared.now.ready end.new }
+    {
+        match committed {
+            Committed::Nothing => Ok(()),
+            Committed::Alone(row) => self.keep_row(end, kept, row),
+            Committed::Pair(row, partner) => {
+                self.keep_row(end, kept, row)?;
+                self.keep_row(end, kept, partner)
+            }
+        }
     }
 
     /// The row is kept, or put into the ready queues where there is no room.
@@ -190,12 +238,16 @@ impl<R: Wait, G: Gate + StepGate> Crew<'_, R, G> {
         Ok(())
     }
 
-    /// Half of the rows that are kept, the oldest, are put into the ready queues, from which others may take them.
+    /// Half of the rows that are kept, the oldest, are put into the ready queues, from which others may take them, where
+    /// what was shared before is taken.
     #[inline(never)]
     fn share(&self, end: &mut ReadyEnd, kept: &mut Kept) -> Result<(), Halt>
         requires { IsEndOf self.now.shared.now.ready end.old }
         ensures { IsEndOf self.now.shared.now.ready end.new }
     {
+        if !end.is_clear() {
+            return Ok(());
+        }
         for _ in 0..kept.len() / 2 {
             let Some(row) = kept.pop() else {
                 return Ok(());
