@@ -51,12 +51,6 @@ impl Activity {
         self.active.load(Ordering::SeqCst) < self.workers
     }
 
-    /// Whether some worker is idle at the moment.
-    #[inline(always)]
-    pub(crate) fn has_idle(&self) -> bool {
-        self.active.load(Ordering::SeqCst) < self.workers
-    }
-
     /// An idle worker becomes active, before it looks for a row.
     pub(crate) fn wake(&self) {
         self.active.fetch_add(1, Ordering::SeqCst);

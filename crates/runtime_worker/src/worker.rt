@@ -24,14 +24,6 @@ const LEAST_TO_SHARE: usize = 3;
 /// ever.
 const TURNS_BETWEEN_LOOKS: u32 = 64;
 
-/// With so few rows at least a worker shares what it has kept. A token that goes round leaves two rows ready at once, of
-/// which another worker would gain nothing: all that they touch would have to come over, to and fro.
-const LEAST_TO_SHARE: usize = 3;
-
-/// With each so many turns a worker looks into the ready queues, though it has kept rows: so no row is left there for
-/// ever.
-const TURNS_BETWEEN_LOOKS: u32 = 64;
-
 /// What a worker has for itself: its pass of the cells, the machines at rest, its passes of the lanes, its end of the
 /// ready queues, and its number.
 #[derive(Drop)]
