@@ -26,25 +26,14 @@ are_trees source script lined = record { same = bodies_seen script.processes.ite
 -- a fault of what was read is one of the request
 pub fails_journal : (Holds : Files) (asked : OfJournal) (source read : List ℕ) (s : Script) → Holds asked.script.now source → Spells source s → Holds asked.journal.now read → Fits read →
     (fault : Fault) → FailsOf asked.question s (all_rows asked.rows asked.seasons) read fault → FailsJournal Holds asked fault
-fails_journal Holds asked source read s holds spells has fits faults.Memory says = tt
-fails_journal Holds asked source read s holds spells has fits (faults.BadLine line) says = (source, holds, s, spells, read, has, (fits, says))
-fails_journal Holds asked source read s holds spells has fits (faults.NoRun line) says = (source, holds, s, spells, read, has, (fits, says))
-fails_journal Holds asked source read s holds spells has fits (faults.Unnamed name) says = (source, holds, s, spells, read, has, (fits, says))
-fails_journal Holds asked source read s holds spells has fits (faults.NotAllowed step) says = absurd says
-fails_journal Holds asked source read s holds spells has fits faults.Workers says = absurd says
-fails_journal Holds asked source read s holds spells has fits faults.Rows says = absurd says
-fails_journal Holds asked source read s holds spells has fits faults.Lost says = absurd says
-fails_journal Holds asked source read s holds spells has fits faults.Unlawful says = absurd says
-fails_journal Holds asked source read s holds spells has fits faults.NoThread says = absurd says
-fails_journal Holds asked source read s holds spells has fits faults.Seasons says = absurd says
-fails_journal Holds asked source read s holds spells has fits faults.SeasonCount says = absurd says
-fails_journal Holds asked source read s holds spells has fits (faults.Syntax line) says = absurd says
-fails_journal Holds asked source read s holds spells has fits (faults.UnknownName line) says = absurd says
-fails_journal Holds asked source read s holds spells has fits (faults.Twice line) says = absurd says
-fails_journal Holds asked source read s holds spells has fits (faults.TooMany line) says = absurd says
-fails_journal Holds asked source read s holds spells has fits (faults.LoopWithoutSync line) says = absurd says
-fails_journal Holds asked source read s holds spells has fits faults.TooLong says = absurd says
-fails_journal Holds asked source read s holds spells has fits (faults.BadStep line) says = absurd says
+fails_journal Holds asked source read s holds spells has fits (faults.Journal its) says = (source, holds, s, spells, read, has, (fits, says))
+fails_journal Holds asked source read s holds spells has fits (faults.Chart its) says = (source, holds, s, spells, read, has, (fits, says))
+fails_journal Holds asked source read s holds spells has fits faults.Memory says = absurd says
 fails_journal Holds asked source read s holds spells has fits faults.TooLarge says = absurd says
-fails_journal Holds asked source read s holds spells has fits faults.Unread says = absurd says
-fails_journal Holds asked source read s holds spells has fits faults.Unwritten says = absurd says
+fails_journal Holds asked source read s holds spells has fits (faults.File its) says = absurd says
+fails_journal Holds asked source read s holds spells has fits (faults.Script its) says = absurd says
+fails_journal Holds asked source read s holds spells has fits (faults.Names its) says = absurd says
+fails_journal Holds asked source read s holds spells has fits (faults.Meet its) says = absurd says
+fails_journal Holds asked source read s holds spells has fits (faults.Play its) says = absurd says
+fails_journal Holds asked source read s holds spells has fits (faults.Run its) says = absurd says
+fails_journal Holds asked source read s holds spells has fits (faults.Seasons its) says = absurd says

@@ -13,21 +13,25 @@ use Rattle.pcml_request.specs.declared.request.Question.TheVariants as question
 use Rattle.pcml_request.specs.declared.request.Running.{Running}
 use Rattle.pcml_request.specs.declared.request.Search.{Search}
 use Rattle.pcml_request.specs.Requests.{all_rows}
-use Rattle.pcml_explain.specs.Topics.{Explains}
+use Rattle.pcml_explain.specs.Topics as topics
 use Rattle.pcml_answers.specs.Needs.{MisnamesAny, Names}
-use Rattle.pcml_answers.specs.declared.need.NamesFault.{NamesFault}
-use Rattle.pcml_answers.specs.declared.need.NamesFault.TheVariants as names
 use Rattle.pcml_files.specs.Files.{Fits, IsTooLarge}
+use Rattle.pcml_files.specs.declared.source.SourceFault.{SourceFault}
+use Rattle.pcml_files.specs.declared.source.SourceFault.TheVariants as files
 use Rattle.pcml_tool.specs.Meet.{PrintsMeeting}
 use Rattle.pcml_tool.specs.declared.fault.Fault.{Fault}
 use Rattle.pcml_tool.specs.declared.fault.Fault.TheVariants as faults
-use Rattle.protocol_schedule.specs.Schedule.{IsFirstBadLine}
-use Rattle.pcml_tool.specs.Play.{IsPlayed, IsFirstRefused}
+use Rattle.pcml_tool.specs.declared.meeting.MeetFault.{MeetFault}
+use Rattle.pcml_tool.specs.Play.{ExplainsPlay, IsPlayed}
 use Rattle.pcml_texts.specs.Check.{IsChecked}
 use Rattle.runtime.specs.Played.{NeedsSeasons}
 use Rattle.runtime.specs.Limits.{AreRows, AreSeasons, AreWorkers}
-use Rattle.pcml_texts.specs.Replay.{IsNoRun, TellsReplayed, unlawful_line}
-use Rattle.pcml_texts.specs.Chart.{IsCharted}
+use Rattle.runtime.specs.declared.seasons.SeasonFault.{SeasonFault}
+use Rattle.runtime.specs.declared.seasons.SeasonFault.TheVariants as seasons
+use Rattle.runtime_run.specs.declared.fault.RunFault.{RunFault}
+use Rattle.runtime_run.specs.declared.fault.RunFault.TheVariants as runs
+use Rattle.pcml_texts.specs.Replay.{TellsReplayed}
+use Rattle.pcml_texts.specs.Chart.{ExplainsChart, IsCharted}
 use Rattle.pcml_texts.specs.Why.{IsWhyOf, TellsWhy}
 use Rattle.protocol_values.specs.declared.Commit.{Commit}
 use Rattle.pcml_texts.specs.Next.{TellsNextOf}
@@ -39,7 +43,7 @@ use Rattle.pcml_texts.specs.declared.replay.Replayed.{Replayed}
 use Rattle.pcml_texts.specs.declared.replay.Replayed.TheVariants as replays
 use Rattle.pcml_tool.specs.declared.answer.Verdict.{Verdict}
 use Rattle.pcml_tool.specs.declared.answer.Verdict.TheVariants.{Denied, Done, Lacking, Unlawful}
-use Rattle.journal_text.specs.Journals as journals
+use Rattle.journal_text.specs.Answers.{Explains}
 use Rattle.journal_text.specs.Names.{named}
 use Rattle.outcomes.specs.declared.Outcomes.{Outcomes as Found}
 use Rattle.outcomes.specs.declared.asked.Asked.{Asked}
@@ -54,7 +58,7 @@ use Rattle.script.specs.FirstFaults.{Tells}
 use Rattle.script.specs.Lines.{AreLined}
 use Rattle.script_tree.specs.Trees.{block_of}
 use Rattle.script_tree.specs.declared.tree.Block.{Block as Tree}
-use Rattle.script.specs.declared.fault.ScriptFault.TheVariants as scripts
+use Rattle.script.specs.declared.fault.ScriptFault.{ScriptFault}
 
 -- Which bytes the file of a name holds. No contract says more of it than the source of the files does.
 abbrev pub Files : Type 1
@@ -199,54 +203,63 @@ Answers Holds Keeps (Meet value) Done text = PrintsMeeting value text
 Answers Holds Keeps (Play name) Done text = OfSchedule Holds name.now (λ bytes. IsPlayed bytes text)
 Answers Holds Keeps (Check name) Done text = (bytes : List ℕ) × Holds name.now bytes × IsChecked bytes text
 Answers Holds Keeps (Run asked) verdict text = AnswersRun Holds Keeps asked verdict text
-Answers Holds Keeps (Explain topic) Done text = Explains topic text
+Answers Holds Keeps (Explain topic) Done text = topics.Explains topic text
 Answers Holds Keeps Version Done text = text ≡ version_line
 Answers Holds Keeps asked verdict text = ⊥
 
 -- what a fault of a script says: the file's text has it as its first
-abbrev pub FailsScript : Files → List ℕ → Fault → Type 0
-FailsScript Holds name (faults.Syntax line) = (bytes : List ℕ) × Holds name bytes × Tells bytes (scripts.Syntax line)
-FailsScript Holds name (faults.UnknownName line) = (bytes : List ℕ) × Holds name bytes × Tells bytes (scripts.UnknownName line)
-FailsScript Holds name (faults.Twice line) = (bytes : List ℕ) × Holds name bytes × Tells bytes (scripts.Twice line)
-FailsScript Holds name (faults.TooMany line) = (bytes : List ℕ) × Holds name bytes × Tells bytes (scripts.TooMany line)
-FailsScript Holds name (faults.LoopWithoutSync line) = (bytes : List ℕ) × Holds name bytes × Tells bytes (scripts.LoopWithoutSync line)
-FailsScript Holds name faults.TooLong = (bytes : List ℕ) × Holds name bytes × Tells bytes scripts.TooLong
-FailsScript Holds name fault = ⊥
+abbrev pub FailsScript : Files → List ℕ → ScriptFault → Type 0
+FailsScript Holds name fault = (bytes : List ℕ) × Holds name bytes × Tells bytes fault
+
+-- of a file that was to be read nothing else is told than that it was not, or that memory lacked
+abbrev pub IsOfReading : SourceFault → Type 0
+IsOfReading files.Unwritten = ⊥
+IsOfReading fault = ⊤
+
+-- of files where a script is read, and a journal may be written into one that is named
+abbrev pub FailsFile : {A : Type 0} → Option A → SourceFault → Type 0
+FailsFile name files.Unwritten = name ≢ None
+FailsFile name fault = ⊤
+
+-- of a journal that was to be kept in a file, where one is named, that it was not written, or that memory lacked
+abbrev pub IsOfKeeping : {A : Type 0} → Option A → Fault → Type 0
+IsOfKeeping name faults.Memory = ⊤
+IsOfKeeping name (faults.File files.Memory) = ⊤
+IsOfKeeping name (faults.File files.Unwritten) = name ≢ None
+IsOfKeeping name fault = ⊥
 
 -- what a fault of reading a script says
 abbrev pub FailsParse : Files → List ℕ → Fault → Type 0
-FailsParse Holds name faults.Memory = Unit {0}
-FailsParse Holds name faults.Unread = Unit {0}
-FailsParse Holds name fault = FailsScript Holds name fault
+FailsParse Holds name (faults.File fault) = IsOfReading fault
+FailsParse Holds name (faults.Script fault) = FailsScript Holds name fault
+FailsParse Holds name fault = ⊥
 
 -- what a fault of reading a schedule or a journal says of what its file holds
 abbrev pub FailsRead : (List ℕ → Type 0) → Fault → Type 0
-FailsRead Holds faults.Memory = Unit {0}
-FailsRead Holds faults.Unread = Unit {0}
+FailsRead Holds (faults.File fault) = IsOfReading fault
 FailsRead Holds faults.TooLarge = (bytes : List ℕ) × Holds bytes × IsTooLarge bytes
 FailsRead Holds fault = ⊥
 
+-- what a fault of telling why a text is no script says
+abbrev pub FailsWhyScript : Fault → Type 0
+FailsWhyScript faults.Memory = ⊤
+FailsWhyScript (faults.File fault) = IsOfReading fault
+FailsWhyScript fault = ⊥
+
 -- what a fault of playing the schedule in a file says
 abbrev pub FailsPlay : Files → List ℕ → Fault → Type 0
-FailsPlay Holds name (faults.BadStep line) = OfSchedule Holds name (λ bytes. IsFirstBadLine bytes line)
-FailsPlay Holds name (faults.NotAllowed step) = OfSchedule Holds name (λ bytes. IsFirstRefused bytes step)
+FailsPlay Holds name (faults.Play fault) = OfSchedule Holds name (λ bytes. ExplainsPlay bytes fault)
 FailsPlay Holds name fault = FailsRead (Holds name) fault
 
--- what a fault of a chart says: that the journal is no run, and with which line first, or that no process has a name
-abbrev pub BreaksChart : Question → Script → ℕ → List ℕ → ℕ → Type 0
-BreaksChart (question.Chart d) s rows read line = IsNoRun s rows read (unlawful_line line)
-BreaksChart asked s rows read line = ⊥
-
-abbrev pub MisnamesChart : Question → Script → NamesFault → Type 0
-MisnamesChart (question.Chart d) s fault = MisnamesAny s (option_copied d.only) fault
-MisnamesChart asked s fault = ⊥
+-- where a chart is asked for
+abbrev pub OfChart : Question → (Drawing → Type 0) → Type 0
+OfChart (question.Chart d) Says = Says d
+OfChart asked Says = ⊥
 
 -- what a fault says of the script and the journal that were read
 abbrev pub FailsOf : Question → Script → ℕ → List ℕ → Fault → Type 0
-FailsOf asked s rows read faults.Memory = Unit {0}
-FailsOf asked s rows read (faults.BadLine line) = journals.IsFirstBadLine s read line
-FailsOf asked s rows read (faults.NoRun line) = BreaksChart asked s rows read line
-FailsOf asked s rows read (faults.Unnamed name) = MisnamesChart asked s (names.Unnamed name)
+FailsOf asked s rows read (faults.Journal fault) = Explains s read fault
+FailsOf asked s rows read (faults.Chart fault) = OfChart asked (λ d. ExplainsChart s rows read (option_copied d.only) fault)
 FailsOf asked s rows read fault = ⊥
 
 -- what it says of their files
@@ -254,60 +267,64 @@ abbrev pub FailsAsOf : Files → OfJournal → Fault → Type 0
 FailsAsOf Holds asked fault = OfFiles Holds asked.script.now asked.journal.now (λ s read. Fits read × FailsOf asked.question s (all_rows asked.rows asked.seasons) read fault)
 
 abbrev pub FailsJournal : Files → OfJournal → Fault → Type 0
-FailsJournal Holds asked faults.Memory = Unit {0}
-FailsJournal Holds asked faults.Unread = Unit {0}
+FailsJournal Holds asked (faults.File fault) = IsOfReading fault
+FailsJournal Holds asked (faults.Script fault) = FailsScript Holds asked.script.now fault
 FailsJournal Holds asked faults.TooLarge = OfFiles Holds asked.script.now asked.journal.now (λ s read. IsTooLarge read)
-FailsJournal Holds asked (faults.BadLine line) = FailsAsOf Holds asked (faults.BadLine line)
-FailsJournal Holds asked (faults.NoRun line) = FailsAsOf Holds asked (faults.NoRun line)
-FailsJournal Holds asked (faults.Unnamed name) = FailsAsOf Holds asked (faults.Unnamed name)
-FailsJournal Holds asked fault = FailsScript Holds asked.script.now fault
+FailsJournal Holds asked fault = FailsAsOf Holds asked fault
 
 -- want of memory, or the first name that no process has
 abbrev pub FailsNamed : Script → Option (List ℕ) → Fault → Type 0
-FailsNamed s need faults.Memory = Unit {0}
-FailsNamed s need (faults.Unnamed name) = MisnamesAny s need (names.Unnamed name)
+FailsNamed s need (faults.Names fault) = MisnamesAny s need fault
 FailsNamed s need fault = ⊥
 
 -- what a fault of a run of the script says of what was asked for
+abbrev pub FailsOnce : ℕ → ℕ → RunFault → Type 0
+FailsOnce workers rows runs.Memory = ⊤
+FailsOnce workers rows runs.NoWorker = ⊤
+FailsOnce workers rows runs.Workers = ¬ AreWorkers workers
+FailsOnce workers rows runs.Rows = ¬ AreRows rows
+
+-- the same of a run in so many seasons
+abbrev pub FailsInSeasons : Script → ℕ → ℕ → ℕ → SeasonFault → Type 0
+FailsInSeasons s workers rows count seasons.Memory = ⊤
+FailsInSeasons s workers rows count seasons.NoWorker = ⊤
+FailsInSeasons s workers rows count seasons.Workers = ¬ AreWorkers workers
+FailsInSeasons s workers rows count seasons.Rows = ¬ AreRows rows
+FailsInSeasons s workers rows count seasons.SeasonCount = ¬ AreSeasons count
+FailsInSeasons s workers rows count seasons.Seasons = NeedsSeasons s.processes rows count
+FailsInSeasons s workers rows count seasons.Lost = ⊥
+FailsInSeasons s workers rows count seasons.Unlawful = ⊥
+
 abbrev pub FailsRun : Script → ℕ → ℕ → Option ℕ → Fault → Type 0
-FailsRun s workers rows seasons faults.Memory = Unit {0}
-FailsRun s workers rows seasons faults.NoThread = Unit {0}
-FailsRun s workers rows seasons faults.Workers = ¬ AreWorkers workers
-FailsRun s workers rows seasons faults.Rows = ¬ AreRows rows
-FailsRun s workers rows seasons faults.Seasons = (count : ℕ) × (seasons ≡ Some count) × NeedsSeasons s.processes rows count
-FailsRun s workers rows seasons faults.SeasonCount = IfSome seasons (λ count. ¬ AreSeasons count)
+FailsRun s workers rows None (faults.Run fault) = FailsOnce workers rows fault
+FailsRun s workers rows (Some count) (faults.Seasons fault) = FailsInSeasons s workers rows count fault
 FailsRun s workers rows seasons fault = ⊥
 
--- what a fault says of a run of a script: that of the script, of the run, of a name that is needed, or that the journal's file was not written
+-- what a fault says of a run of a script: that of the script, of a name that is needed, of the run, or that the journal's file was not written
 abbrev pub FailsRunning : Files → Running → Fault → Type 0
-FailsRunning Holds asked faults.Memory = Unit {0}
-FailsRunning Holds asked faults.Unread = Unit {0}
-FailsRunning Holds asked faults.NoThread = Unit {0}
-FailsRunning Holds asked faults.Workers = ¬ AreWorkers asked.workers
-FailsRunning Holds asked faults.Rows = ¬ AreRows asked.rows
-FailsRunning Holds asked faults.Lost = ⊥
-FailsRunning Holds asked faults.Unlawful = ⊥
-FailsRunning Holds asked faults.Seasons = OfScript Holds asked.script.now (λ s. FailsRun s asked.workers asked.rows asked.seasons faults.Seasons)
-FailsRunning Holds asked faults.SeasonCount = IfSome asked.seasons (λ count. ¬ AreSeasons count)
-FailsRunning Holds asked faults.Unwritten = asked.journal ≢ None
-FailsRunning Holds asked (faults.Unnamed name) = OfScript Holds asked.script.now (λ s. FailsNamed s (option_copied asked.need) (faults.Unnamed name))
-FailsRunning Holds asked fault = FailsScript Holds asked.script.now fault
+FailsRunning Holds asked faults.Memory = ⊤
+FailsRunning Holds asked (faults.File fault) = FailsFile asked.journal fault
+FailsRunning Holds asked (faults.Script fault) = FailsScript Holds asked.script.now fault
+FailsRunning Holds asked (faults.Names fault) = OfScript Holds asked.script.now (λ s. FailsNamed s (option_copied asked.need) (faults.Names fault))
+FailsRunning Holds asked fault = OfScript Holds asked.script.now (λ s. FailsRun s asked.workers asked.rows asked.seasons fault)
 
 -- what a fault says of a search: that of the script, of a name, or that the journal's file was not written
 abbrev pub FailsOutcomes : Files → Search → Fault → Type 0
-FailsOutcomes Holds search faults.Unwritten = search.journal ≢ None
-FailsOutcomes Holds search (faults.Unnamed name) = OfScript Holds search.script.now (λ s. FailsAsked s search (faults.Unnamed name))
-FailsOutcomes Holds search fault = FailsParse Holds search.script.now fault
+FailsOutcomes Holds search faults.Memory = ⊤
+FailsOutcomes Holds search (faults.File fault) = FailsFile search.journal fault
+FailsOutcomes Holds search (faults.Script fault) = FailsScript Holds search.script.now fault
+FailsOutcomes Holds search (faults.Names fault) = OfScript Holds search.script.now (λ s. FailsAsked s search (faults.Names fault))
+FailsOutcomes Holds search fault = ⊥
 
--- what a fault says of the request: `meet` lacks only memory or a thread, and the others may also fail by a file or by what it holds
+-- what a fault says of the request
 abbrev pub Fails : Files → Request → Fault → Type 0
-Fails Holds (Meet value) fault = (fault ≡ faults.Memory) ⊎ (fault ≡ faults.NoThread)
+Fails Holds (Meet value) fault = (meeting : MeetFault) × (fault ≡ faults.Meet meeting)
 Fails Holds (Play name) fault = FailsPlay Holds name.now fault
 Fails Holds (Check name) fault = FailsParse Holds name.now fault
 Fails Holds (Explain topic) fault = fault ≡ faults.Memory
 Fails Holds (request.OfJournal asked) fault = FailsJournal Holds asked fault
-Fails Holds (WhyScript name) fault = FailsRead (λ bytes. ⊥) fault
-Fails Holds (WhyShort name) fault = FailsRead (λ bytes. ⊥) fault
+Fails Holds (WhyScript name) fault = FailsWhyScript fault
+Fails Holds (WhyShort name) fault = FailsWhyScript fault
 Fails Holds (Outcomes search) fault = FailsOutcomes Holds search fault
 Fails Holds (Run asked) fault = FailsRunning Holds asked fault
 Fails Holds Version fault = fault ≡ faults.Memory

@@ -3,7 +3,6 @@ use Rattle.std.specs.Prelude.{◌||◌, Bool, not, if◌then◌else◌}
 use Rattle.std.specs.Option.{option_copied}
 use Rattle.script.specs.Sources.{Script}
 use Rattle.outcomes.specs.declared.asked.Asked.{Asked}
-use Rattle.pcml_answers.specs.declared.need.NamesFault.TheVariants as names
 use Rattle.pcml_request.specs.declared.request.Search.{Search}
 use Rattle.pcml_answers.specs.declared.finding.Finding.{Finding}
 use Rattle.pcml_answers.specs.declared.finding.Finding.TheVariants.{Clear, Open, Stuck}
@@ -19,8 +18,7 @@ IsAskedBy s search asked = IsAskedOf s search.wanted (option_copied search.only)
 
 -- want of memory, or the first name that no process has: of those that are needed, or else of the others
 abbrev pub FailsAsked : Script → Search → Fault → Type 0
-FailsAsked s search faults.Memory = MisnamesAsked s search.wanted (option_copied search.only) names.Memory
-FailsAsked s search (faults.Unnamed name) = MisnamesAsked s search.wanted (option_copied search.only) (names.Unnamed name)
+FailsAsked s search (faults.Names fault) = MisnamesAsked s search.wanted (option_copied search.only) fault
 FailsAsked s search fault = ⊥
 
 -- what a finding says where the journal of an outcome was asked for or not, and is there or not

@@ -1,15 +1,15 @@
 //! What comes of the files that a request names.
 
-ghost use Rattle.std.specs.Prelude.{◌≡◌, ◌≢◌, ◌≤◌, ◌⊎◌, List, ℕ, None, IfSome, IfOk, IfErr, OnOk};
+ghost use Rattle.std.specs.Prelude.{◌≡◌, ◌≤◌, List, ℕ, IfOk, IfErr};
 ghost use Rattle.protocol_values.specs.Commits.{most_rows};
 ghost use Rattle.std.specs.Option.{option_map};
 ghost use Rattle.script.specs.Lines.{trees_of_script};
 ghost use Rattle.script.specs.Scripts.{script_of};
 ghost use Rattle.script.specs.Spelling.{Spells};
-ghost use Rattle.pcml_tool.specs.declared.fault.Fault.TheVariants.{Memory, Unwritten};
+ghost use Rattle.pcml_tool.specs.declared.fault.Fault.TheVariants.{Memory};
 ghost use Rattle.pcml_texts.specs.Check.{IsChecked};
 ghost use Rattle.pcml_tool.specs.Play.{IsPlayed};
-ghost use Rattle.pcml_tool.specs.Command.{AnswersJournal, AnswersWhyScript, AnswersWhyShort, AreTreesOf, IsJudged, FailsJournal, FailsOf, FailsParse, FailsPlay, FailsRead, IsToldShort, IsToldWhyNot, OfSchedule, TellsOf};
+ghost use Rattle.pcml_tool.specs.Command.{AnswersJournal, AnswersWhyScript, AnswersWhyShort, AreTreesOf, IsJudged, FailsJournal, FailsOf, FailsParse, FailsPlay, FailsRead, FailsWhyScript, IsToldShort, IsToldWhyNot, OfSchedule, TellsOf};
 ghost use Rattle.pcml_files.specs.Files.{Fits};
 
 use crate::answer::{Answer, Verdict};
@@ -177,7 +177,7 @@ pub(crate) fn why_file<S: Source>(
     name: &str,
 ) -> Result<Answer, Fault>
     ensures done { IfOk result (λ answer. AnswersWhyScript (S.holds source.old) name.now answer.verdict answer.text.items) }
-    ensures fault { IfErr result (FailsRead (λ bytes. ⊥)) }
+    ensures fault { IfErr result FailsWhyScript }
 {
     let bytes = source.read(name)?;
     told_why_not(alloc, why_not(alloc, &bytes)?)
@@ -190,7 +190,7 @@ pub(crate) fn why_short_file<S: Source>(
     name: &str,
 ) -> Result<Answer, Fault>
     ensures done { IfOk result (λ answer. AnswersWhyShort (S.holds source.old) name.now answer.verdict answer.text.items) }
-    ensures fault { IfErr result (FailsRead (λ bytes. ⊥)) }
+    ensures fault { IfErr result FailsWhyScript }
 {
     let bytes = source.read(name)?;
     Ok(told_short(alloc, why_short(alloc, name, &bytes)?))
@@ -209,19 +209,4 @@ fn told_short(alloc: Global, text: Option<Vec<u8>>) -> Answer
         text,
         advice: "",
     }
-}
-
-/// Keeps the lines of a journal in a file, where one is named.
-pub(crate) fn keep_journal<S: Source>(
-    source: &mut S,
-    lines: &[u8],
-    journal: Option<&str>,
-) -> Result<(), Fault>
-    ensures kept { OnOk result (IfSome journal.entry (λ name. S.holds source.new name.now lines.now)) }
-    ensures fault { IfErr result (λ fault. (fault ≡ Memory) ⊎ ((fault ≡ Unwritten) × (journal.entry ≢ None))) }
-{
-    if let Some(name) = journal {
-        source.store(name, lines)?;
-    }
-    Ok(())
 }

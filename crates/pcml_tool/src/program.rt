@@ -1,6 +1,6 @@
 //! The program, over any files and any two streams.
 
-ghost use Rattle.std.specs.Prelude.{◌≡◌, ◌≤◌, ◌⊎◌, ◌++◌, List, ℕ, IfOk, IfErr, length};
+ghost use Rattle.std.specs.Prelude.{◌≡◌, ◌≤◌, ◌⊎◌, ◌++◌, List, ℕ, IfOk, IfErr, IfSome, OnOk, length};
 ghost use Rattle.script.specs.Lines.{trees_of_script};
 ghost use Rattle.script.specs.Scripts.{script_of};
 ghost use Rattle.std.specs.Io.KnownBytes.{Appends};
@@ -9,18 +9,18 @@ ghost use Rattle.journal_replay.specs.Replays.{StandsAfter};
 ghost use Rattle.std.specs.Option.{option_copied};
 ghost use Rattle.pcml_request.specs.declared.request.Request.{Request};
 ghost use Rattle.pcml_request.specs.declared.request.Request.TheVariants.{Outcomes, Run};
-ghost use Rattle.pcml_tool.specs.declared.fault.Fault.TheVariants.{Memory, Unwritten};
+ghost use Rattle.pcml_files.specs.declared.source.SourceFault.TheVariants as files;
+ghost use Rattle.pcml_tool.specs.declared.fault.Fault.TheVariants as faults;
 ghost use Rattle.pcml_tool.specs.declared.answer.Verdict.TheVariants.{Done, Lacking};
 ghost use Rattle.pcml_request.specs.Requests.{CanBeAnswered, all_rows};
-ghost use Rattle.pcml_tool.specs.Command.{Answers, AnswersOutcomes, AnswersRun, AreNeeded, AreTreesOf, Began, Fails, FailsNamed, FailsOutcomes, FailsRun, FailsRunning, TellsWhyAsked, marks_of, printed, verdict_by};
+ghost use Rattle.pcml_tool.specs.Command.{Answers, AnswersOutcomes, AnswersRun, AreNeeded, AreTreesOf, Began, Fails, FailsNamed, FailsOutcomes, FailsRun, FailsRunning, IsOfKeeping, TellsWhyAsked, marks_of, printed, verdict_by};
 ghost use Rattle.pcml_tool.specs.Faults.{status_of};
 ghost use Rattle.pcml_tool.specs.Run.{TellsAsked};
 
 use crate::answer::{Answer, Verdict};
 use crate::fault::Fault;
 use crate::from_files::{
-    answer_journal, check_file, keep_journal, play_file, read_script, read_source, why_file,
-    why_short_file,
+    answer_journal, check_file, play_file, read_script, read_source, why_file, why_short_file,
 };
 use crate::searching::{asked_of, keep_outcome};
 use crate::{
@@ -32,7 +32,7 @@ use pcml_answers::{named_processes, outcomes_text};
 use pcml_files::{MOST_BYTES, Source, emit};
 use pcml_request::{Request, Running, Search, WordsFault, all_rows, read_words};
 use script::Script;
-use std::alloc::{AllocError, Global};
+use std::alloc::Global;
 use std::io::Write;
 use std::sync::Wait;
 use std::thread::Threads;
@@ -102,7 +102,7 @@ fn why_asked(
     requires runs { trees_in ran.now.state ≡ trees_of_script script.now }
     requires trees { AreTreesOf text.now (script_of script.now) (trees_of_script script.now) }
     ensures told { IfOk result (λ told. TellsWhyAsked why (script_of script.now) text.now rows ran.now.commits.items told.items) }
-    ensures fault { IfErr result (λ fault. fault ≡ Memory) }
+    ensures fault { IfErr result (λ fault. fault ≡ faults.Memory) }
 {
     if why {
         Ok(why_standing(alloc, script, text, &ran.commits, &ran.state, rows)?)
@@ -111,12 +111,25 @@ fn why_asked(
     }
 }
 
-/// What is printed of a run: its lines, unless it is quiet, the rest, and why the processes stand so.
-fn run_text(ran: RunText, why: &[u8], quiet: bool) -> Result<Vec<u8>, AllocError>
-    ensures { IfOk result (λ text. text.items ≡ printed quiet ran.lines.items ran.rest.items ++ why.now) }
+/// Keeps the lines of a run in a file, where one is named, and gives what is printed: the lines, unless it is quiet, the
+/// rest, and why the processes stand so. There is room for all of it before the file is written.
+fn keep_run<S: Source>(
+    source: &mut S,
+    ran: RunText,
+    why: &[u8],
+    journal: Option<&str>,
+    quiet: bool,
+) -> Result<Vec<u8>, Fault>
+    ensures printed { IfOk result (λ text. text.items ≡ printed quiet ran.lines.items ran.rest.items ++ why.now) }
+    ensures kept { OnOk result (IfSome journal.entry (λ name. S.holds source.new name.now ran.lines.items)) }
+    ensures fault { IfErr result (IsOfKeeping journal.entry) }
 {
     let RunText { lines, rest, .. } = ran;
     let mut text = lines;
+    text.reserve(rest.len() + why.len())?;
+    if let Some(name) = journal {
+        source.store(name, &text)?;
+    }
     if quiet {
         text.clear();
     }
@@ -147,8 +160,7 @@ fn answer_run<R: Threads + Wait + Sync, S: Source>(
     let rows = all_rows(asked.rows, asked.seasons);
     let why = why_asked(alloc, &script, &source_text, &ran, rows, asked.why)?;
     let is_long = asked.journal.is_some() && ran.lines.len() > MOST_BYTES;
-    keep_journal(source, &ran.lines, asked.journal)?;
-    let text = run_text(ran, &why, asked.quiet)?;
+    let text = keep_run(source, ran, &why, asked.journal, asked.quiet)?;
     Ok(Answer {
         verdict,
         text,
@@ -237,7 +249,7 @@ fn respond<R: Threads + Wait + Sync, S: Source, O: Write, E: Write, W: Watch>(
     ensures done { IfOk result (λ verdict. (text : List ℕ) × Answers (S.holds source.old) (S.holds source.new) asked.entry verdict text
         × Appends (O.contents out.old) (O.contents out.new) text) }
     ensures fault { IfErr result (λ fault.
-        ((fault ≡ Unwritten) × Began (S.holds source.old) (S.holds source.new) asked.entry (O.contents out.old) (O.contents out.new))
+        ((fault ≡ faults.File files.Unwritten) × Began (S.holds source.old) (S.holds source.new) asked.entry (O.contents out.old) (O.contents out.new))
         ⊎ (Fails (S.holds source.old) asked.entry fault × (out.new ≡ out.old))) }
 {
     let Answer {

@@ -1,17 +1,16 @@
 //! What is asked for of the outcomes, and what is answered.
 
-ghost use Rattle.std.specs.Prelude.{◌≡◌, ◌≢◌, ◌⊎◌, None, IfErr, IfOk, OnOk, is_some, length};
+ghost use Rattle.std.specs.Prelude.{◌≡◌, IfErr, IfOk, OnOk, is_some, length};
 ghost use Rattle.std.specs.Option.{option_copied};
 ghost use Rattle.script.specs.Scripts.{script_of};
 ghost use Rattle.pcml_answers.specs.Told.{NamesNeeded, bytes_of};
-ghost use Rattle.pcml_tool.specs.declared.fault.Fault.TheVariants.{Memory, Unwritten};
-ghost use Rattle.pcml_tool.specs.Command.{KeepsAsked};
+ghost use Rattle.pcml_tool.specs.Command.{IsOfKeeping, KeepsAsked};
 ghost use Rattle.pcml_tool.specs.Searching.{FailsAsked, IsAskedBy, verdict_of};
 
 use crate::answer::{Answer, Verdict};
 use crate::fault::Fault;
 use outcomes::Asked;
-use pcml_answers::{Finding, NamesFault, OutcomesText};
+use pcml_answers::{Finding, OutcomesText};
 use pcml_files::Source;
 use pcml_request::Search;
 use script::Script;
@@ -29,11 +28,8 @@ pub(crate) fn asked_of(alloc: Global, script: &Script, search: &Search<'_>) -> R
     ensures marks { IfOk result (λ asked. length asked.named.items ≡ length (script_of script.now).processes) }
     ensures fault { IfErr result (FailsAsked (script_of script.now) search.now) }
 {
-    match pcml_texts::asked_of(alloc, script, search.wanted, search.only, search.first) {
-        Ok(asked) => Ok(asked),
-        Err(NamesFault::Memory) => Err(Fault::Memory),
-        Err(NamesFault::Unnamed(name)) => Err(Fault::Unnamed(name)),
-    }
+    let asked = pcml_texts::asked_of(alloc, script, search.wanted, search.only, search.first)?;
+    Ok(asked)
 }
 
 /// What the finding says of what was asked, where the journal of an outcome was asked for or not, and is there or not.
@@ -58,7 +54,7 @@ pub(crate) fn keep_outcome<S: Source>(
     ensures kept { OnOk result (KeepsAsked (S.holds source.old) (S.holds source.new) (option_copied journal.entry) (bytes_of listed.journal)) }
     ensures verdict { IfOk result (λ answer. answer.verdict ≡ verdict_of listed.finding (is_some of) (is_some (bytes_of listed.journal))) }
     ensures printed { IfOk result (λ answer. answer.text.items ≡ listed.text.items) }
-    ensures fault { IfErr result (λ fault. (fault ≡ Memory) ⊎ ((fault ≡ Unwritten) × (journal.entry ≢ None))) }
+    ensures fault { IfErr result (IsOfKeeping journal.entry) }
 {
     let OutcomesText {
         text,

@@ -1,4 +1,6 @@
-use pcml_tool::{Fault, Source, SourceFault, Unwatched, command, play_laws, replay_laws};
+use pcml_tool::{
+    Fault, MeetFault, Source, SourceFault, Unwatched, command, play_laws, replay_laws,
+};
 use std::alloc::{AllocError, Global};
 use std::fmt::Debug;
 use std::io;
@@ -82,7 +84,7 @@ fn run<R: AllocGlobal + Threads + Wait + Sync>(
     }
     // a thread that lacks memory is not started
     if status == 1 && out.is_empty() && err.as_slice() == b"fault 6\n".as_slice() {
-        return Err(Fault::NoThread);
+        return Err(Fault::Meet(MeetFault::NoThread));
     }
     Ok(Outcome { status, out, err })
 }

@@ -1,34 +1,41 @@
 //! What `explain` prints.
 
 use super::{Outcome, check_same, run};
-use pcml_tool::Fault;
+use journal_text::JournalFault;
+use pcml_tool::{ChartFault, Fault, MeetFault, PlayFault, SourceFault};
+use runtime::{RunFault, SeasonFault};
+use script::ScriptFault;
 use std::process::Abort;
 use std::sync::Wait;
 use std::test::Fail;
 use std::thread::Threads;
 
-/// Every fault: a match over them in `Fault::number` has no other.
-const FAULTS: [Fault; 20] = [
+/// Each number of a fault, by one fault at least that has it: the matches behind `Fault::number` have no other.
+const FAULTS: [Fault; 24] = [
     Fault::Memory,
-    Fault::NotAllowed(7),
-    Fault::Workers,
-    Fault::Rows,
-    Fault::Lost,
-    Fault::Unlawful,
-    Fault::NoThread,
-    Fault::Seasons,
-    Fault::SeasonCount,
-    Fault::Syntax(7),
-    Fault::UnknownName(7),
-    Fault::Twice(7),
-    Fault::TooMany(7),
-    Fault::LoopWithoutSync(7),
-    Fault::TooLong,
-    Fault::BadLine(7),
-    Fault::BadStep(7),
     Fault::TooLarge,
-    Fault::Unread,
-    Fault::Unwritten,
+    Fault::File(SourceFault::Unread),
+    Fault::File(SourceFault::Unwritten),
+    Fault::Script(ScriptFault::Syntax(7)),
+    Fault::Script(ScriptFault::UnknownName(7)),
+    Fault::Script(ScriptFault::Twice(7)),
+    Fault::Script(ScriptFault::TooMany(7)),
+    Fault::Script(ScriptFault::LoopWithoutSync(7)),
+    Fault::Script(ScriptFault::TooLong),
+    Fault::Journal(JournalFault::BadLine(7)),
+    Fault::Chart(ChartFault::BadLine(7)),
+    Fault::Meet(MeetFault::NoThread),
+    Fault::Play(PlayFault::NotAllowed(7)),
+    Fault::Play(PlayFault::BadStep(7)),
+    Fault::Run(RunFault::Workers),
+    Fault::Run(RunFault::Rows),
+    Fault::Run(RunFault::NoWorker),
+    Fault::Seasons(SeasonFault::Rows),
+    Fault::Seasons(SeasonFault::Lost),
+    Fault::Seasons(SeasonFault::Unlawful),
+    Fault::Seasons(SeasonFault::NoWorker),
+    Fault::Seasons(SeasonFault::Seasons),
+    Fault::Seasons(SeasonFault::SeasonCount),
 ];
 
 fn explained<R: AllocGlobal + Threads + Wait + Sync>(rt: &R, number: u16) -> Result<Outcome, Fail> {
