@@ -15,8 +15,8 @@ mod world;
 
 pub use crate::world::{World, play};
 pub use protocol_ledger::{
-    Bare, LIVES, Ledger, Life, NACKS, NackState, OFFERS, Opening, ROW_LEN, Resident, next_words,
-    start_words,
+    Bare, LIVES, Layout, Ledger, Life, NACKS, NackState, OFFERS, Opening, ROW_LEN, Resident,
+    Starts, next_words, start_words,
 };
 pub use protocol_values::{
     Atom, Base, Binding, Cause, Cell, Commit, Course, Direction, Head, Joined, Message, NackName,

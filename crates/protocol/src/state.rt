@@ -1,6 +1,7 @@
 //! A world's state, and the steps on it.
 
 ghost use Rattle.std.specs.Prelude.{Some, ◌≡◌, ◌*◌, ◌<◌, ◌≤◌, ◌↔◌, IfOk, IsTrue, true, length, map, replicate};
+ghost use Rattle.protocol_ledger.specs.Short.{even};
 
 use protocol_ledger::{Life, NACKS, Opening, ROW_LEN, Sheet, start_of, waits};
 use protocol_values::{
@@ -19,7 +20,7 @@ pub(crate) struct State {
     pub(crate) namers: Vec<Option<Row>>,
     pub(crate) lasts: Vec<Option<u8>>,
     ghost some_rows: { 1 ≤ sheet.rows },
-    ghost whole: { sheet.offers ≡ 8 },
+    ghost whole: { sheet.layout ≡ even 8 sheet.rows },
     ghost held: { length holders.items ≡ sheet.threads * sheet.rows },
     ghost named: { length namers.items ≡ sheet.threads * sheet.rows },
     ghost behind: { length lasts.items ≡ sheet.threads },

@@ -48,8 +48,8 @@ impl World {
         World::start_later(alloc, threads, rows, seats, 0)
     }
 
-    /// The same, but a thread whose bit is set in the mask `later` waits to be started, and nobody holds its
-    /// row 0. Bits of threads that the world has not change nothing.
+    /// A world in which a thread whose bit is set in the mask `later` waits to be started, and nobody holds its row 0.
+    /// All else is as by `start`. Bits of threads that the world has not change nothing.
     pub fn start_later(
         alloc: Global,
         threads: u8,

@@ -1,5 +1,5 @@
 -- What a ledger tells of its end, found by looking at rows.
-use Rattle.std.proofs.Common.{◌⊎◌, ◌≡◌, ◌∙◌, ◌+◌, ◌*◌, ◌/◌, ◌%◌, ◌<◌, ◌≤◌, ◌++◌, ◌∷◌, [], ℕ, zero, suc, List, length, slice_get, Bool, true, false, cond, ltb, Option, None, Some, ap, arith, inl, inr, refl, subst, sym, ⊎_elim}
+use Rattle.std.proofs.Common.{◌⊎◌, ◌≡◌, ◌∙◌, ◌+◌, ◌*◌, ◌/◌, ◌%◌, ◌<◌, ◌≤◌, ◌++◌, ◌∷◌, [], ℕ, zero, suc, List, length, slice_get, Bool, true, false, cond, ltb, Option, None, Some, ap, arith, inl, inr, refl, subst, sym, unwrap_or, ⊎_elim}
 use Rattle.std.specs.Prelude.{slice_index_or}
 use Rattle.std.proofs.lemmas.Bool.{and_parts, cases_Bool, cases_lt, false≢true, ltb-true}
 use Rattle.std.proofs.lemmas.Option.{none-some, same_Some}
@@ -14,10 +14,12 @@ use Rattle.protocol_values.specs.declared.Offer.{Offer}
 use Rattle.protocol_values.specs.declared.Row.{Row}
 use Rattle.protocol_values.specs.Commits.{stamp_of}
 use Rattle.protocol_values.specs.Scopes.{has_scope}
+use Rattle.protocol_values.specs.Words.{nack_of}
+use Rattle.protocol_values.proofs.WordLemmas.{nack_of-zero}
 use Rattle.protocol_ledger.specs.Ledgers.{CountsThread, Fits, HasCommit, Involves, IsCaused, IsLawful, Ledger, Takes, binding_in, carried_in, nack_in, course_in, has_row, joined_in, ledger_of, marks_in, no_entry, offer_in}
-use Rattle.protocol_ledger.specs.Openings.{IsLastStamp}
+use Rattle.protocol_ledger.specs.Openings.{IsLastStamp, nack_numbered}
 use Rattle.protocol_ledger.specs.Kept.{Linked}
-use Rattle.protocol_ledger.specs.Tables.{Table, bound_by, carried_by, nack_says, cell_at, encloses, is_fresh, is_taken, marks_at, number_of, offer_at, start_of}
+use Rattle.protocol_ledger.specs.Tables.{Table, bound_by, carried_by, is_nack, nack_at, nack_says, cell_at, encloses, is_fresh, is_taken, marks_at, number_of, offer_at, start_of}
 use Rattle.protocol_values.specs.declared.Cell.{Cell}
 use Rattle.protocol_values.specs.declared.Cell.TheVariants.{Claimed, Fresh, Synched, Taken, Waiting}
 use Rattle.protocol_ledger.proofs.LedgerLemmas.{binding_in_ledger, carried_in_ledger, lawful_ledger, offer_in_ledger}
@@ -113,6 +115,15 @@ nack_told t l n w is e = (
   sym (ap (λ (x : Ledger). carried_in x n) is) ∙ (λ i. carried_in_ledger t i n) ∙ carried_is t n ∙ ap carried_by (sym e),
 )
 
+-- a word of 0 says that the nack is not bound
+pub zero_says : (t : Table) (n : NackName) → nack_at t n ≡ 0 → nack_says t n ≡ Unbound
+unfolding nack_says
+zero_says t n zero_word = by_test (is_nack t n)
+  where
+    by_test : (b : Bool) → cond b (unwrap_or (nack_of (nack_at t n)) Unbound) Unbound ≡ Unbound
+    by_test true = ap (λ (w : ℕ). unwrap_or (nack_of w) Unbound) zero_word ∙ ap (λ (o : Option NackWord). unwrap_or o Unbound) nack_of-zero
+    by_test false = refl
+
 -- one that was settled before is bound to no row
 pub carried_unbound : (l : Ledger) (n : NackName) (stamp : ℕ) → carried_in l n ≡ Some stamp → binding_in l n ≡ None
 unfolding carried_in binding_in
@@ -137,10 +148,6 @@ each_pushed P [] y before new zero x e = subst (P 0) (same_Some y x e) new
 each_pushed P [] y before new (suc i) x e = absurd (none-some x e)
 each_pushed P (z ∷ xs) y before new zero x e = before 0 x e
 each_pushed P (z ∷ xs) y before new (suc i) x e = each_pushed (λ k. P (suc k)) xs y (λ k. before (suc k)) new i x e
-
--- the nack that has this number, thread by thread
-abbrev pub nack_numbered : ℕ → NackName
-nack_numbered i = record { thread = i / 64; k = i % 64 }
 
 pub numbered : (n : NackName) → n.k < 64 → nack_numbered (n.thread * 64 + n.k) ≡ n
 numbered n low =

@@ -6,10 +6,10 @@ use Rattle.std.proofs.lemmas.List.{get_or-set_other, get_or-set_same, length-map
 use Rattle.protocol_values.specs.declared.NackName.{NackName}
 use Rattle.protocol_values.specs.Words.{course_word, nack_word}
 use Rattle.protocol_ledger.specs.declared.opening.NackState.TheVariants as state
-use Rattle.protocol_ledger.specs.Openings.{AreFirstWords, Begins, Opening, course_for, greatest, held_first, table_with, thread_in, word_for}
+use Rattle.protocol_ledger.specs.Openings.{AreFirstWords, Begins, Opening, course_for, greatest, held_first, nack_numbered, table_with, thread_in, word_for}
 use Rattle.protocol_ledger.specs.Tables.{all_rows, course_place, is_nack, nack_at, nack_place, number_of, place_of, thread_len, word_at}
 use Rattle.protocol_ledger.specs.Worlds.{World}
-use Rattle.protocol_ledger.proofs.Closing.{nack_numbered, numbered}
+use Rattle.protocol_ledger.proofs.Closing.{numbered}
 use Rattle.protocol_ledger.proofs.Keeping.{held_inside, length_all}
 use Rattle.protocol_ledger.proofs.LedgerLemmas.{at_number, zeros}
 use Rattle.protocol_ledger.proofs.Places.{course_apart, course_nack_apart, course_place_inside, nack_apart, nack_inside, nack_place_inside, row_inside, same_course_place, same_nack_place}

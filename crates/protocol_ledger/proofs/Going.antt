@@ -16,9 +16,8 @@ use Rattle.protocol_ledger.specs.declared.opening.Life.TheVariants as life
 use Rattle.protocol_ledger.specs.declared.opening.NackState.{NackState}
 use Rattle.protocol_ledger.specs.declared.opening.NackState.TheVariants as state
 use Rattle.protocol_ledger.specs.Ledgers.{HasCommit, Involves, IsEnabledHere, IsLawful, Ledger, LivesAt, carried_in, commits_in, course_in, joined_in, marks_in, offer_in}
-use Rattle.protocol_ledger.specs.Openings.{IsLastStamp, IsOpening, LeadsOn, Opening, TellsEnd, TellsNack, first_life, greatest, life_of, stamp_in, start_opening}
+use Rattle.protocol_ledger.specs.Openings.{IsLastStamp, IsOpening, LeadsOn, Opening, TellsEnd, TellsNack, first_life, greatest, life_of, nack_numbered, stamp_in, start_opening}
 use Rattle.protocol_ledger.specs.Tables.{start_of}
-use Rattle.protocol_ledger.proofs.Closing.{nack_numbered}
 use Rattle.protocol_ledger.proofs.Keeping.{few_commits}
 use Rattle.protocol_ledger.proofs.LedgerLemmas.{start_greatest, start_threads}
 

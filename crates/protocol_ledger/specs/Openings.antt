@@ -1,5 +1,5 @@
 -- What a ledger tells of its end, which a later table goes on from: the last stamp of each thread, and what became of each nack.
-use Rattle.std.specs.Prelude.{◌≡◌, ◌⊎◌, ◌≤◌, ◌<◌, ◌+◌, ◌*◌, ◌%◌, ◌&&◌, ◌==◌, if◌then◌else◌, ℕ, Bool, List, Option, None, Some, true, false, length, map, max, replicate, ◌≢◌, All, slice_get, slice_index, slice_index_or, slice_set}
+use Rattle.std.specs.Prelude.{◌≡◌, ◌⊎◌, ◌≤◌, ◌<◌, ◌+◌, ◌*◌, ◌/◌, ◌%◌, ◌&&◌, ◌==◌, if◌then◌else◌, ℕ, Bool, List, Option, None, Some, true, false, length, map, max, replicate, ◌≢◌, All, slice_get, slice_index, slice_index_or, slice_set}
 use Rattle.std.specs.List.{fold, range_with_len}
 use Rattle.protocol_values.specs.declared.Binding.{Binding}
 use Rattle.protocol_values.specs.declared.Commit.{Commit}
@@ -91,6 +91,14 @@ TellsNack l n Unsettled = (b : Binding) × (binding_in l n ≡ Some b) × ((c : 
 TellsNack l n Dead = (carried_in l n ≡ Some 0) ⊎ IsDead l n
 TellsNack l n (Enabled stamp) =
     (1 ≤ stamp) × ((carried_in l n ≡ Some stamp) ⊎ ((e : IsEnabledHere (joined_in l) (offer_in l) (marks_in l) n) × (stamp_of e.commit ≡ stamp)))
+
+-- the nack that has this number, of 64 a thread, thread by thread
+abbrev pub nack_numbered : ℕ → NackName
+nack_numbered i = record { thread = i / 64; k = i % 64 }
+
+-- of the first nacks
+abbrev pub TellNacks : Ledger → List NackState → Type 0
+TellNacks l states = (i : ℕ) (state : NackState) → slice_get states i ≡ Some state → TellsNack l (nack_numbered i) state
 
 -- 64 nacks a thread, thread by thread
 abbrev pub TellsNacks : Ledger → List NackState → Type 0

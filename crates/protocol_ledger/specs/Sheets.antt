@@ -3,6 +3,6 @@ use Rattle.protocol_ledger.specs.declared.sheet.Sheet.{Sheet}
 use Rattle.protocol_ledger.specs.Short.{wide_table}
 use Rattle.protocol_ledger.specs.Tables.{Table}
 
--- the table for which a sheet's words stand, whose rows may be short
+-- the table for which a sheet's words stand, whose rows and threads may be short
 abbrev pub table_of : Sheet → Table
-table_of b = wide_table b.offers (record { threads = b.threads; rows = b.rows; words = b.words.items; opening = b.opening })
+table_of b = wide_table b.layout (record { threads = b.threads; rows = b.rows; words = b.words.items; opening = b.opening })

@@ -92,7 +92,7 @@ impl Sheet {
         }
     }
 
-    /// The same of any row.
+    /// The commit that the row names, whether it has a partner or none.
     #[inline(never)]
     fn named_by_any(&self, row: Row) -> Option<Commit>
         requires { IsLawful (ledger_of (table_of self.now)) }
@@ -102,7 +102,7 @@ impl Sheet {
         self.commit_named(row, joined)
     }
 
-    /// The same of a row that has a partner.
+    /// The commit that a row with a partner names, by its word.
     fn named_by_pair(&self, row: Row, word: u64) -> Option<Commit>
         requires lawful { IsLawful (ledger_of (table_of self.now)) }
         requires row { is_row (table_of self.now) row ≡ true }

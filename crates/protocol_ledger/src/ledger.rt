@@ -2,6 +2,7 @@
 
 ghost use Rattle.std.specs.Prelude.{◌≡◌, ◌*◌, ◌≤◌, ◌↔◌, IfOk, IfSome, IfNone, IsPermutation, Contains, length};
 
+use crate::layout::Layout;
 use crate::sheet::{OFFERS, Sheet};
 use crate::stamps::nearly_by_stamp;
 use protocol_values::{Commit, Row};
@@ -30,7 +31,7 @@ impl Model for Ledger {
 
 ghost use Rattle.protocol_ledger.specs.Ledgers.{ledger_of, IsLawful, HasCommit, Involves, IsCausal, marks_in, commits_in, pending_in};
 ghost use Rattle.protocol_values.specs.Commits.{IsInOrder};
-ghost use Rattle.protocol_ledger.specs.Short.{short_len, wide_table};
+ghost use Rattle.protocol_ledger.specs.Short.{Fits, wide_table, words_below};
 ghost use Rattle.protocol_ledger.specs.Tables.{thread_len};
 ghost use Rattle.protocol_ledger.specs.Sheets.{table_of};
 ghost use Rattle.protocol_values.specs.declared.Commit.{Commit};
@@ -56,15 +57,16 @@ impl Ledger {
         requires lawful { IsLawful (ledger_of (record { threads = threads; rows = rows; words = words.items; opening = opening })) }
         ensures { result ≡ ledger_of (record { threads = threads; rows = rows; words = words.items; opening = opening }) }
     {
-        Ledger::of_short_words(threads, rows, OFFERS as u8, words, opening)
+        let layout = Layout::even(OFFERS, rows);
+        Ledger::of_short_words(threads, rows, layout, words, opening)
     }
 
-    /// The same of short rows, each of which has room for so many offers: of 2 words, and of 4 for each offer. The words
-    /// that a row has not are 0.
+    /// The ledger of words that are laid out so: a row has 2 words, and 4 for each offer for which it has room, and a
+    /// thread has few rows. The words that are not there are 0.
     pub fn of_short_words(
         threads: u8,
         rows: u16,
-        offers: u8,
+        layout: Layout,
         words: Vec<u64>,
         opening: u32,
     ) -> Ledger
@@ -72,16 +74,17 @@ impl Ledger {
         requires few_threads { threads ≤ 64 }
         requires some_rows { 1 ≤ rows }
         requires few_rows { rows ≤ 1024 }
-        requires few_offers { offers ≤ 8 }
-        requires sized { length words.items ≡ threads * short_len offers rows }
-        requires lawful { IsLawful (ledger_of (wide_table offers (record { threads = threads; rows = rows; words = words.items; opening = opening }))) }
-        ensures { result ≡ ledger_of (wide_table offers (record { threads = threads; rows = rows; words = words.items; opening = opening })) }
+        requires fits { Fits layout rows }
+        requires sized { length words.items ≡ words_below layout threads }
+        requires lawful { IsLawful (ledger_of (wide_table layout (record { threads = threads; rows = rows; words = words.items; opening = opening }))) }
+        ensures { result ≡ ledger_of (wide_table layout (record { threads = threads; rows = rows; words = words.items; opening = opening })) }
     {
         Ledger {
             sheet: Sheet {
                 threads: usize::from(threads),
                 rows: usize::from(rows),
-                offers: usize::from(offers),
+                layout,
+                starts: layout.starts(),
                 words,
                 opening,
             },

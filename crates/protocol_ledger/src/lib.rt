@@ -2,6 +2,7 @@
 #![tactic(auto)]
 
 mod commits;
+mod layout;
 mod ledger;
 mod opening;
 mod reached;
@@ -9,6 +10,7 @@ mod resident;
 mod sheet;
 mod stamps;
 
+pub use crate::layout::{Layout, Starts};
 pub use crate::ledger::Ledger;
 pub use crate::opening::{Life, NackState, Opening};
 pub use crate::resident::{Bare, Resident};

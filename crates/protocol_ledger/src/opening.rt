@@ -1,9 +1,9 @@
 //! What a ledger tells of its end: each thread's life and last stamp, and what became of each nack.
 
-ghost use Rattle.std.specs.Prelude.{◌≡◌, ◌+◌, ◌*◌, ◌<◌, ◌≤◌, ◌↔◌, Contains, IfOk, IsTrue};
+ghost use Rattle.std.specs.Prelude.{◌≡◌, ◌+◌, ◌*◌, ◌<◌, ◌≤◌, ◌↔◌, Contains, IfOk, IsTrue, OnOk, length};
 ghost use Rattle.protocol_ledger.specs.Ledgers.{HasCommit, Involves, IsLawful, Takes};
 ghost use Rattle.protocol_values.specs.Commits.{stamp_of};
-ghost use Rattle.protocol_ledger.specs.Openings.{HaveReached, IsOpening, IsPast, LeadsOn, TellsEnd, TellsNack, TellsNacks, TellsThreads, course_for, first_life, greatest, life_of, opening_of, stamp_in, start_opening, word_for};
+ghost use Rattle.protocol_ledger.specs.Openings.{HaveReached, IsOpening, IsPast, LeadsOn, TellsEnd, TellNacks, TellsNack, TellsNacks, TellsThreads, course_for, first_life, greatest, life_of, opening_of, stamp_in, start_opening, word_for};
 
 use crate::ledger::Ledger;
 use crate::reached::Reached;
@@ -148,7 +148,7 @@ impl Ledger {
         self.opening_by(&self.commits()?)
     }
 
-    /// The same by the commits of the ledger, for who has listed them already.
+    /// What the ledger tells of its end, by its commits, for who has listed them already.
     pub fn opening_by(&self, commits: &[Commit]) -> Result<Opening, AllocError>
         requires { (c : Commit) → Contains commits.now c ↔ HasCommit self.now c }
         ensures end { IfOk result (λ o. TellsEnd self.now o.threads.items o.nacks.items) }
@@ -180,16 +180,36 @@ impl Ledger {
         requires { HaveReached self.now reached.now }
         ensures { IfOk result (λ states. TellsNacks self.now states.items) }
     {
-        let count = self.sheet.threads * NACKS;
-        let mut states = Vec::with_capacity(self.sheet.allocator(), count)?;
-        for number in 0..count {
-            let nack = NackName {
-                thread: (number / NACKS) as u8,
-                k: (number % NACKS) as u8,
-            };
-            states.push(self.nack_state(nack, reached[number / NACKS].rows))?;
+        let mut states = Vec::with_capacity(self.sheet.allocator(), reached.len() * NACKS)?;
+        for (thread, reached) in reached.iter().enumerate() {
+            self.add_nacks(thread as u8, reached.rows, &mut states)?;
         }
         Ok(states)
+    }
+
+    /// Adds what became of the nacks of a thread that got to so many rows. Most are not bound, which their words alone
+    /// tell.
+    fn add_nacks(
+        &self,
+        thread: u8,
+        rows: usize,
+        states: &mut Vec<NackState>,
+    ) -> Result<(), AllocError>
+        requires thread { thread < self.now.threads }
+        requires past { IsPast self.now thread rows }
+        requires count { length states.old.items ≡ thread * 64 }
+        requires told { TellNacks self.now states.old.items }
+        ensures count { OnOk result (length states.new.items ≡ thread * 64 + 64) }
+        ensures told { OnOk result (TellNacks self.now states.new.items) }
+    {
+        for (k, word) in self.sheet.nack_words(thread).iter().enumerate() {
+            let state = match *word {
+                0 => NackState::Unbound,
+                _ => self.nack_state(NackName { thread, k: k as u8 }, rows),
+            };
+            states.push(state)?;
+        }
+        Ok(())
     }
 
     /// What became of a nack of a thread that got to so many rows.

@@ -13,6 +13,9 @@ pub trait Resident {
     // whether such values lie in slots
     ghost houses: { Bool };
 
+    // whether a table over such values may have threads that have words for few of their rows
+    ghost short: { Bool };
+
     ghost stands: { Stands Self };
 }
 
@@ -24,6 +27,8 @@ impl Resident for Bare {
     ghost use Rattle.std.specs.Prelude.{false};
 
     ghost houses = { false };
+
+    ghost short = { false };
 
     ghost stands = { record { follows = λ first value thread results. ⊥; offers = λ first value thread results offers nacks. ⊥; starts = λ first value thread results other. ⊥; ends = λ first value thread results. ⊥ } };
 }

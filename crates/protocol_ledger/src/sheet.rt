@@ -1,7 +1,10 @@
 //! The words of a table, and what its rows read as.
 
-ghost use Rattle.std.specs.Prelude.{◌≡◌, ◌+◌, ◌*◌, ◌≤◌, ◌<◌, IfOk, IfSome, Some, is_some, true, length, map, max, replicate, vec_len};
+ghost use Rattle.std.specs.Prelude.{◌≡◌, ◌+◌, ◌*◌, ◌≤◌, ◌<◌, ℕ, IfOk, IfSome, IsFalse, IsTrue, Some, is_some, true, length, map, max, replicate, slice_index, vec_len};
+ghost use Rattle.std.proofs.Props.{props};
+ghost use Rattle.protocol_ledger.specs.Short.{AreStarts, Fits, words_below};
 
+use crate::layout::{Layout, Starts};
 use crate::opening::Opening;
 use protocol_values::{
     Base, Binding, Cell, Course, Joined, NackName, NackWord, Offer, Row, pack_cell, pack_course,
@@ -21,28 +24,31 @@ pub const NACKS: usize = 64;
 /// The word of a thread's life.
 pub const LIVES: usize = 1;
 
-/// A table's words, thread by thread: a thread's rows first, then its nacks, and then its life. The rows may be short:
-/// then the words that they have not are 0.
+/// A table's words, thread by thread: a thread's rows first, then its nacks, and then its life. Rows and threads may be
+/// short: then the words that they have not are 0.
 #[derive(Debug, Drop)]
 pub struct Sheet {
     pub threads: usize,
     /// How many rows a thread has.
     pub rows: usize,
-    /// How many offers a row has room for.
-    pub offers: usize,
+    /// Which of them have words.
+    pub layout: Layout,
+    /// Where each thread's words start.
+    pub starts: Starts,
     pub words: Vec<u64>,
     /// The greatest stamp of what went before the table.
     pub opening: u32,
-    ghost sized: { length words.items ≡ threads * (rows * (2 + 4 * offers) + 65) },
+    ghost sized: { length words.items ≡ words_below layout threads },
     ghost few_threads: { threads ≤ 64 },
     ghost few_rows: { rows ≤ 1024 },
-    ghost few_offers: { offers ≤ 8 },
+    ghost fits: { Fits layout rows } by { Prim.hlevel props },
+    ghost located: { AreStarts layout starts } by { Prim.hlevel props },
 }
 
 impl Sheet {
     ghost use Rattle.protocol_values.specs.Words.{IsBindingInRange, IsCellInRange, IsCourseInRange, IsNackWordInRange};
-    ghost use Rattle.protocol_ledger.specs.Short.{row_len, short_course_place, short_len, short_nack_place, short_place};
-    ghost use Rattle.protocol_ledger.specs.Tables.{is_row, number_of, is_nack, nack_says, word_at, cell_at, count_at, course_at, marks_at, offer_at, joined_at, last_stamp, binding_at, carried_at, end_by, nack_by, nack_via, cause_of};
+    ghost use Rattle.protocol_ledger.specs.Short.{HasWords, even, row_len, rows_of, short_course_place, short_nack_place, short_place};
+    ghost use Rattle.protocol_ledger.specs.Tables.{is_row, number_of, is_nack, nack_at, nack_says, word_at, cell_at, count_at, course_at, marks_at, offer_at, joined_at, last_stamp, binding_at, carried_at, end_by, nack_by, nack_via, cause_of};
     ghost use Rattle.protocol_ledger.specs.Openings.{AreFirstWords, IsOpening, greatest, opening_of};
     ghost use Rattle.protocol_ledger.specs.Worlds.{with_course, with_word, with_cell, with_nack};
     ghost use Rattle.protocol_ledger.specs.Sheets.{table_of};
@@ -54,14 +60,16 @@ impl Sheet {
         ensures words { IfOk result (λ b. (table_of b).words ≡ with_lives later rows threads (replicate (threads * (rows * 34 + 65)) 0)) }
         ensures threads { IfOk result (λ b. b.threads ≡ threads) }
         ensures rows { IfOk result (λ b. b.rows ≡ rows) }
-        ensures offers { IfOk result (λ b. b.offers ≡ 8) }
+        ensures layout { IfOk result (λ b. b.layout ≡ even 8 rows) }
         ensures opening { IfOk result (λ b. b.opening ≡ 0) }
     {
         let words = start_words(alloc, threads, rows, later)?;
+        let layout = Layout::even(OFFERS, rows as u16);
         Ok(Sheet {
             threads,
             rows,
-            offers: OFFERS,
+            layout,
+            starts: layout.starts(),
             words,
             opening: 0,
         })
@@ -74,14 +82,16 @@ impl Sheet {
         ensures words { IfOk result (λ b. AreFirstWords (opening_of opening.now) (table_of b)) }
         ensures threads { IfOk result (λ b. b.threads ≡ length opening.now.threads.items) }
         ensures rows { IfOk result (λ b. b.rows ≡ rows) }
-        ensures offers { IfOk result (λ b. b.offers ≡ 8) }
+        ensures layout { IfOk result (λ b. b.layout ≡ even 8 rows) }
         ensures opening { IfOk result (λ b. b.opening ≡ greatest (opening_of opening.now)) }
     {
-        let words = next_words(alloc, opening, rows, OFFERS)?;
+        let layout = Layout::even(OFFERS, rows as u16);
+        let words = next_words(alloc, opening, rows, layout)?;
         Ok(Sheet {
             threads: opening.threads.len(),
             rows,
-            offers: OFFERS,
+            layout,
+            starts: layout.starts(),
             words,
             opening: opening.greatest(),
         })
@@ -116,28 +126,24 @@ impl Sheet {
         self.threads * self.rows
     }
 
-    /// How many words a row has.
-    fn row_len(&self) -> usize
-        ensures { result ≡ row_len self.now.offers }
+    /// Whether there are words for the row.
+    fn has_words(&self, row: Row) -> bool
+        ensures has { IsTrue result → (row.thread < self.now.threads) × HasWords self.now.layout row }
+        ensures lacks { IsFalse result → row.thread < self.now.threads → rows_of self.now.layout row.thread ≤ row.sync }
     {
-        2 + 4 * self.offers
-    }
-
-    /// How many words a thread has.
-    fn thread_len(&self) -> usize
-        ensures { result ≡ short_len self.now.offers self.now.rows }
-    {
-        self.rows * self.row_len() + NACKS + LIVES
+        let thread = usize::from(row.thread);
+        thread < self.threads && row.sync < u32::from(self.layout.lens[thread])
     }
 
     /// Where the row's word at a place lies.
     fn place(&self, row: Row, place: usize) -> usize
-        requires row { is_row (table_of self.now) row ≡ true }
-        requires place { place < row_len self.now.offers }
-        ensures value { result ≡ short_place self.now.offers self.now.rows row place }
+        requires thread { row.thread < self.now.threads }
+        requires words { HasWords self.now.layout row }
+        requires place { place < row_len self.now.layout.offers }
+        ensures value { result ≡ short_place self.now.layout row place }
         ensures inside { result < vec_len self.now.words }
     {
-        usize::from(row.thread) * self.thread_len() + row.sync as usize * self.row_len() + place
+        self.layout.place(&self.starts, row, place)
     }
 
     /// The row's word at a place, 0 where a short row has none.
@@ -146,18 +152,21 @@ impl Sheet {
         requires place { place < 34 }
         ensures { result ≡ word_at (table_of self.now) row place }
     {
-        if place >= self.row_len() {
+        if !self.has_words(row) || place >= self.layout.row_len() {
             return 0;
         }
         let at = self.place(row, place);
         self.words[at]
     }
 
-    /// The word of the row's cell.
+    /// The word of the row's cell, 0 where its thread has no words for it.
     pub(crate) fn cell_word(&self, row: Row) -> u64
         requires { is_row (table_of self.now) row ≡ true }
         ensures { result ≡ word_at (table_of self.now) row 0 }
     {
+        if !self.has_words(row) {
+            return 0;
+        }
         let at = self.place(row, 0);
         self.words[at]
     }
@@ -167,10 +176,11 @@ impl Sheet {
     pub fn cell(&self, row: Row) -> Cell
         ensures { result ≡ cell_at (table_of self.now) row }
     {
-        if !self.contains(row) {
+        if !self.has_words(row) {
             return Cell::Fresh;
         }
-        unpack_cell(self.cell_word(row)).unwrap_or(Cell::Fresh)
+        let at = self.place(row, 0);
+        unpack_cell(self.words[at]).unwrap_or(Cell::Fresh)
     }
 
     /// How many offers an opened row has: 0 to 8.
@@ -208,7 +218,7 @@ impl Sheet {
         requires { is_some (offer_at (table_of self.now) row n) ≡ true }
         ensures { offer_at (table_of self.now) row n ≡ Some result }
     {
-        if usize::from(n) >= self.offers {
+        if usize::from(n) >= self.layout.offers {
             return read_offer(0, 0, 0, 0);
         }
         let head = self.place(row, 2 + 4 * usize::from(n));
@@ -230,10 +240,10 @@ impl Sheet {
     /// Where the word of the thread's life lies.
     fn course_place(&self, thread: u8) -> usize
         requires { thread < self.now.threads }
-        ensures value { result ≡ short_course_place self.now.offers self.now.rows thread }
+        ensures value { result ≡ short_course_place self.now.layout thread }
         ensures inside { result < vec_len self.now.words }
     {
-        usize::from(thread) * self.thread_len() + self.rows * self.row_len() + NACKS
+        self.layout.behind(&self.starts, usize::from(thread)) + NACKS
     }
 
     /// Where the thread is on its course. One that the table has not never starts.
@@ -276,12 +286,20 @@ impl Sheet {
     /// Where the nack's word lies.
     fn nack_place(&self, nack: NackName) -> usize
         requires { is_nack (table_of self.now) nack ≡ true }
-        ensures value { result ≡ short_nack_place self.now.offers self.now.rows nack }
+        ensures value { result ≡ short_nack_place self.now.layout nack }
         ensures inside { result < vec_len self.now.words }
     {
-        usize::from(nack.thread) * self.thread_len()
-            + self.rows * self.row_len()
-            + usize::from(nack.k)
+        self.layout.behind(&self.starts, usize::from(nack.thread)) + usize::from(nack.k)
+    }
+
+    /// The words of the thread's nacks, in their order.
+    pub(crate) fn nack_words(&self, thread: u8) -> &[u64]
+        requires { thread < self.now.threads }
+        ensures count { length result.now ≡ 64 }
+        ensures words { (k : ℕ) → k < 64 → slice_index result.now k ≡ nack_at (table_of self.now) (record { thread = thread; k = k }) }
+    {
+        let first = self.nack_place(NackName { thread, k: 0 });
+        &self.words[first..first + NACKS]
     }
 
     /// What the nack's word says. A nack that the table has not is not bound.
@@ -364,7 +382,7 @@ impl Sheet {
         ensures written { table_of self.new ≡ with_nack (table_of self.old) nack bound }
         ensures threads { self.new.threads ≡ self.old.threads }
         ensures rows { self.new.rows ≡ self.old.rows }
-        ensures offers { self.new.offers ≡ self.old.offers }
+        ensures layout { self.new.layout ≡ self.old.layout }
         ensures opening { self.new.opening ≡ self.old.opening }
     {
         let at = self.nack_place(nack);
@@ -378,7 +396,7 @@ impl Sheet {
         ensures written { table_of self.new ≡ with_course (table_of self.old) thread course }
         ensures threads { self.new.threads ≡ self.old.threads }
         ensures rows { self.new.rows ≡ self.old.rows }
-        ensures offers { self.new.offers ≡ self.old.offers }
+        ensures layout { self.new.layout ≡ self.old.layout }
         ensures opening { self.new.opening ≡ self.old.opening }
     {
         let at = self.course_place(thread);
@@ -388,9 +406,11 @@ impl Sheet {
     /// Writes the row's word at a place.
     pub fn set_word(&mut self, row: Row, place: usize, word: u64)
         requires row { is_row (table_of self.old) row ≡ true }
-        requires place { place < row_len self.old.offers }
+        requires words { HasWords self.old.layout row }
+        requires place { place < row_len self.old.layout.offers }
         ensures written { table_of self.new ≡ with_word (table_of self.old) row place word }
-        ensures offers { self.new.offers ≡ self.old.offers }
+        ensures rows { self.new.rows ≡ self.old.rows }
+        ensures layout { self.new.layout ≡ self.old.layout }
     {
         let at = self.place(row, place);
         self.words[at] = word;
@@ -400,11 +420,12 @@ impl Sheet {
     #[tactic(auto, unfolding(crate::specs::Worlds::with_cell))]
     pub fn set_cell(&mut self, row: Row, cell: Cell)
         requires row { is_row (table_of self.old) row ≡ true }
+        requires words { HasWords self.old.layout row }
         requires range { IsCellInRange cell }
         ensures written { table_of self.new ≡ with_cell (table_of self.old) row cell }
         ensures threads { self.new.threads ≡ self.old.threads }
         ensures rows { self.new.rows ≡ self.old.rows }
-        ensures offers { self.new.offers ≡ self.old.offers }
+        ensures layout { self.new.layout ≡ self.old.layout }
         ensures opening { self.new.opening ≡ self.old.opening }
     {
         self.set_word(row, 0, pack_cell(cell));
@@ -413,7 +434,7 @@ impl Sheet {
 
 ghost use Rattle.protocol_ledger.specs.Tables.{encloses, is_fresh, start_of};
 ghost use Rattle.protocol_ledger.specs.Openings.{AreFirstWords, IsOpening, opening_of, table_with};
-ghost use Rattle.protocol_ledger.specs.Short.{short_len, wide_table};
+ghost use Rattle.protocol_ledger.specs.Short.{wide_table};
 ghost use Rattle.protocol_ledger.specs.Worlds.{waits, with_lives};
 
 /// The words of a table at the start: all 0, but the lives of the threads that have started, at stamp 0.
@@ -438,29 +459,29 @@ pub fn start_words(
     Ok(words)
 }
 
-/// The words of a table that goes on from an opening, whose rows have room for so many offers: those of its rows 0, the
-/// life of each thread with its last stamp, and carried what became of each nack.
+/// The words of a table that goes on from an opening, and is laid out so: those of its rows 0, the life of each thread
+/// with its last stamp, and carried what became of each nack.
 pub fn next_words(
     alloc: Global,
     opening: &Opening,
     rows: usize,
-    offers: usize,
+    layout: Layout,
 ) -> Result<Vec<u64>, AllocError>
     requires opening { IsOpening (opening_of opening.now) rows }
     requires few_rows { rows ≤ 1024 }
-    requires few_offers { offers ≤ 8 }
-    ensures sized { IfOk result (λ v. length v.items ≡ length opening.now.threads.items * short_len offers rows) }
-    ensures first { IfOk result (λ v. AreFirstWords (opening_of opening.now) (wide_table offers (table_with (opening_of opening.now) rows v.items))) }
+    requires fits { Fits layout rows }
+    ensures sized { IfOk result (λ v. length v.items ≡ words_below layout (length opening.now.threads.items)) }
+    ensures first { IfOk result (λ v. AreFirstWords (opening_of opening.now) (wide_table layout (table_with (opening_of opening.now) rows v.items))) }
 {
-    let behind = rows * (2 + 4 * offers);
-    let len = behind + NACKS + LIVES;
-    let mut words = vec![in alloc; 0; opening.threads.len() * len]?;
+    let starts = layout.starts();
+    let mut words = vec![in alloc; 0; starts[opening.threads.len()] as usize]?;
     for (thread, (life, stamp)) in opening.threads.iter().enumerate() {
-        words[thread * len + behind + NACKS] = pack_course(life.course(*stamp));
+        let behind = layout.behind(&starts, thread);
+        words[behind + NACKS] = pack_course(life.course(*stamp));
     }
     for (number, state) in opening.nacks.iter().enumerate() {
-        let nack = number / NACKS * len + behind + number % NACKS;
-        words[nack] = pack_nack(state.word());
+        let behind = layout.behind(&starts, number / NACKS);
+        words[behind + number % NACKS] = pack_nack(state.word());
     }
     Ok(words)
 }

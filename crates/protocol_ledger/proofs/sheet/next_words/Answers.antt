@@ -5,19 +5,11 @@ use Rattle.protocol_ledger.specs.declared.opening.Life.{Life}
 use Rattle.protocol_ledger.specs.declared.opening.Life.TheVariants.{Unstarted}
 use Rattle.protocol_ledger.specs.declared.opening.NackState.{NackState}
 use Rattle.protocol_ledger.specs.declared.opening.NackState.TheVariants.{Unbound}
-use Rattle.protocol_ledger.specs.Openings.{Opening, course_for, opening_of, word_for}
-use Rattle.protocol_ledger.specs.Short.{row_len, short_course_place, short_len, short_nack_place, widen}
-use Rattle.protocol_ledger.proofs.Closing.{nack_numbered}
+use Rattle.protocol_ledger.specs.Openings.{Opening, course_for, nack_numbered, opening_of, word_for}
+use Rattle.protocol_ledger.specs.Short.{short_course_place, short_nack_place, widen, words_below}
 use Rattle.protocol_ledger.proofs.FirstWords.{HaveWritten, written_all, written_life, written_none, written_state}
 use Rattle.protocol_ledger.proofs.Short.{set_course, set_nack, short_course_inside, short_nack_inside, zero_wide}
 use Rattle.protocol_ledger.proofs.sheet.next_words.Goals as goal
-
--- where the words lie, as the code reckons it
-life_place : (offers rows p : ℕ) → p * (rows * (2 + 4 * offers) + 64 + 1) + rows * (2 + 4 * offers) + 64 ≡ short_course_place offers rows p
-life_place offers rows p = ap (λ n. p * n + rows * row_len offers + 64) (let len : rows * row_len offers + 64 + 1 ≡ short_len offers rows = omega arith in len)
-
-state_place : (offers rows k : ℕ) → k / 64 * (rows * (2 + 4 * offers) + 64 + 1) + rows * (2 + 4 * offers) + k % 64 ≡ short_nack_place offers rows (nack_numbered k)
-state_place offers rows k = ap (λ n. k / 64 * n + rows * row_len offers + k % 64) (let len : rows * row_len offers + 64 + 1 ≡ short_len offers rows = omega arith in len)
 
 -- the number of a nack of the table
 its_thread : (threads k : ℕ) → k < threads * 64 → k / 64 < threads
@@ -27,21 +19,21 @@ pub loop-thread-init : goal.loop-thread-init
 loop-thread-init c =
     let o : Opening = opening_of c.args.opening.now in
     let rows : ℕ = c.args.rows in
-    let offers : ℕ = c.args.offers in
+    let y = c.args.layout in
     let count : c.len.result ≡ length o.threads = omega (arith, c.len.ensures, c.args.opening.now.threads.ok) in
-    let len : rows * (2 + 4 * offers) + 64 + 1 ≡ short_len offers rows = omega arith in
-    let items : c.in_ok-words.words.items ≡ replicate (length o.threads * short_len offers rows) 0 =
-    c.in_ok-words.ensures.items_if_clones_equal (λ y h. search rules) ∙ ap (λ n. replicate n 0) (λ i. count i * len i) in (
-      ap (λ (xs : List ℕ). length xs) items ∙ length-replicate (length o.threads * short_len offers rows) 0,
-      subst (HaveWritten o rows 0 0) (sym (ap (widen offers rows (length o.threads)) items ∙ zero_wide offers rows c.requires.few_offers (length o.threads))) (written_none o rows),
+    let few = c.requires.opening.few in
+    let all : get_or c.starts-starts.result c.len.result 0 ≡ words_below y (length o.threads) = c.starts-starts.ensures c.len.result (omega (arith, count)) ∙ ap (words_below y) count in
+    let items : c.in_ok-words.words.items ≡ replicate (words_below y (length o.threads)) 0 = c.in_ok-words.ensures.items_if_clones_equal (λ x h. search rules) ∙ ap (λ n. replicate n 0) all in (
+      ap (λ (xs : List ℕ). length xs) items ∙ length-replicate (words_below y (length o.threads)) 0,
+      subst (HaveWritten o rows 0 0) (sym (ap (widen y rows (length o.threads)) items ∙ zero_wide y rows c.requires.fits (length o.threads))) (written_none o rows),
     )
 
 pub index_mut-requires : goal.index_mut-requires
 index_mut-requires c =
     let o : Opening = opening_of c.args.opening.now in
     let below : c.loop-thread.thread < length o.threads = subst (λ (ts : List (Life × ℕ)). c.loop-thread.thread < length ts) c.deref-life-items.ensures.value c.loop-thread-test.true in
-    let inside = short_course_inside c.args.offers c.args.rows (length o.threads) c.loop-thread.thread below in
-    let place = life_place c.args.offers c.args.rows c.loop-thread.thread in
+    let inside = short_course_inside c.args.layout (length o.threads) c.loop-thread.thread below in
+    let place = c.behind-behind.ensures in
     let size = c.loop-thread.invariant.0 in
     omega (arith, c.loop-thread.words.ok)
 
@@ -49,18 +41,19 @@ pub loop-thread-preserved : goal.loop-thread-preserved
 loop-thread-preserved c =
     let o : Opening = opening_of c.args.opening.now in
     let rows : ℕ = c.args.rows in
-    let offers : ℕ = c.args.offers in
+    let y = c.args.layout in
     let i : ℕ = c.loop-thread.thread in
     let words : List ℕ = c.loop-thread.words.items in
     let below : i < length o.threads = subst (λ (ts : List (Life × ℕ)). i < length ts) c.deref-life-items.ensures.value c.loop-thread-test.true in
     let life : c.course.result ≡ course_for (get_or o.threads i (Unstarted, 0)).0 (get_or o.threads i (Unstarted, 0)).1 =
     c.course.ensures ∙ ap (λ (ts : List (Life × ℕ)). course_for (get_or ts i (Unstarted, 0)).0 (get_or ts i (Unstarted, 0)).1) c.deref-life-items.ensures.value in
+    let place : c.behind-behind.result + 64 ≡ short_course_place y i = omega (arith, c.behind-behind.ensures) in
     let word : ℕ = course_word (course_for (get_or o.threads i (Unstarted, 0)).0 (get_or o.threads i (Unstarted, 0)).1) in (
       length-set words _ _ ∙ c.loop-thread.invariant.0,
-      subst (λ (z : ℕ × ℕ). HaveWritten o rows (i + 1) 0 (widen offers rows (length o.threads) (set words z.0 z.1)))
-          (λ j. (sym (life_place offers rows i) j, sym (c.pack_course.ensures ∙ ap course_word life) j))
-          (subst (HaveWritten o rows (i + 1) 0) (sym (set_course offers rows c.requires.few_offers (length o.threads) words c.loop-thread.invariant.0 i word below))
-          (written_life o rows i (widen offers rows (length o.threads) words) c.loop-thread.invariant.1 below)),
+      subst (λ (z : ℕ × ℕ). HaveWritten o rows (i + 1) 0 (widen y rows (length o.threads) (set words z.0 z.1)))
+          (λ j. (sym place j, sym (c.pack_course.ensures ∙ ap course_word life) j))
+          (subst (HaveWritten o rows (i + 1) 0) (sym (set_course y rows c.requires.fits (length o.threads) words c.loop-thread.invariant.0 i word below))
+          (written_life o rows i (widen y rows (length o.threads) words) c.loop-thread.invariant.1 below)),
     )
 
 pub loop-number-init : goal.loop-number-init
@@ -70,7 +63,7 @@ loop-number-init c =
     let within = c.loop-thread.auto.thread-end in
     let over = c.loop-thread-test.false in (
       c.loop-thread.invariant.0,
-      subst (λ n. HaveWritten o c.args.rows n 0 (widen c.args.offers c.args.rows (length o.threads) c.loop-thread.words.items)) (omega arith) c.loop-thread.invariant.1,
+      subst (λ n. HaveWritten o c.args.rows n 0 (widen c.args.layout c.args.rows (length o.threads) c.loop-thread.words.items)) (omega arith) c.loop-thread.invariant.1,
     )
 
 pub index_mut-requires-in-loop-number : goal.index_mut-requires-in-loop-number
@@ -79,8 +72,8 @@ index_mut-requires-in-loop-number c =
     let k : ℕ = c.loop-number.number in
     let below : k < length o.nacks = subst (λ (ss : List NackState). k < length ss) c.deref-state-items.ensures.value c.loop-number-test.true in
     let all = c.requires.opening.all_nacks in
-    let inside = short_nack_inside c.args.offers c.args.rows (length o.threads) (nack_numbered k) (its_thread (length o.threads) k (omega arith)) (omega arith) in
-    let place = state_place c.args.offers c.args.rows k in
+    let inside = short_nack_inside c.args.layout (length o.threads) (nack_numbered k) (its_thread (length o.threads) k (omega arith)) (omega arith) in
+    let place = c.behind-behind-in-loop-number.ensures in
     let size = c.loop-number.invariant.0 in
     omega (arith, c.loop-number.words.ok)
 
@@ -88,7 +81,7 @@ pub loop-number-preserved : goal.loop-number-preserved
 loop-number-preserved c =
     let o : Opening = opening_of c.args.opening.now in
     let rows : ℕ = c.args.rows in
-    let offers : ℕ = c.args.offers in
+    let y = c.args.layout in
     let k : ℕ = c.loop-number.number in
     let words : List ℕ = c.loop-number.words.items in
     let below : k < length o.nacks = subst (λ (ss : List NackState). k < length ss) c.deref-state-items.ensures.value c.loop-number-test.true in
@@ -96,12 +89,13 @@ loop-number-preserved c =
     let inside : k < length o.threads * 64 = omega arith in
     let state : c.word.result ≡ word_for (get_or o.nacks k Unbound) =
     c.word.ensures ∙ ap (λ (ss : List NackState). word_for (get_or ss k Unbound)) c.deref-state-items.ensures.value in
+    let place : c.behind-behind-in-loop-number.result + k % 64 ≡ short_nack_place y (nack_numbered k) = omega (arith, c.behind-behind-in-loop-number.ensures) in
     let word : ℕ = nack_word (word_for (get_or o.nacks k Unbound)) in (
       length-set words _ _ ∙ c.loop-number.invariant.0,
-      subst (λ (z : ℕ × ℕ). HaveWritten o rows (length o.threads) (k + 1) (widen offers rows (length o.threads) (set words z.0 z.1)))
-          (λ j. (sym (state_place offers rows k) j, sym (c.pack_nack.ensures ∙ ap nack_word state) j))
-          (subst (HaveWritten o rows (length o.threads) (k + 1)) (sym (set_nack offers rows c.requires.few_offers (length o.threads) words c.loop-number.invariant.0 (nack_numbered k) word (its_thread (length o.threads) k inside) (omega arith)))
-          (written_state o rows k (widen offers rows (length o.threads) words) c.loop-number.invariant.1 inside)),
+      subst (λ (z : ℕ × ℕ). HaveWritten o rows (length o.threads) (k + 1) (widen y rows (length o.threads) (set words z.0 z.1)))
+          (λ j. (sym place j, sym (c.pack_nack.ensures ∙ ap nack_word state) j))
+          (subst (HaveWritten o rows (length o.threads) (k + 1)) (sym (set_nack y rows c.requires.fits (length o.threads) words c.loop-number.invariant.0 (nack_numbered k) word (its_thread (length o.threads) k inside) (omega arith)))
+          (written_state o rows k (widen y rows (length o.threads) words) c.loop-number.invariant.1 inside)),
     )
 
 pub returns-clause-sized : goal.returns-clause-sized
@@ -114,5 +108,5 @@ returns-clause-first c =
     let all = c.requires.opening.all_nacks in
     let within = c.loop-number.auto.number-end in
     let over = c.loop-number-test.false in
-    let wide : List ℕ = widen c.args.offers c.args.rows (length o.threads) c.loop-number.words.items in
+    let wide : List ℕ = widen c.args.layout c.args.rows (length o.threads) c.loop-number.words.items in
     written_all o c.args.rows wide (subst (λ n. HaveWritten o c.args.rows (length o.threads) n wide) (omega arith) c.loop-number.invariant.1)

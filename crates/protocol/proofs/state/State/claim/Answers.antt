@@ -9,10 +9,14 @@ use Rattle.protocol.specs.States.{world_of}
 use Rattle.protocol_ledger.proofs.Keeping.{held_row, kept_condition}
 use Rattle.protocol.proofs.Telling.{tells_plain}
 use Rattle.protocol.proofs.Soundness.{sound_state}
+use Rattle.protocol_ledger.proofs.Sheets.{row_there}
 use Rattle.protocol.proofs.state.State.claim.Goals as goal
 
 pub set_cell-requires-clause-row : goal.set_cell-requires-clause-row
 set_cell-requires-clause-row c = held_row (world_of c.args.self.now) c.args.row c.args.seat.0 (c.holds.ensures.0 c.if-not-holds.false)
+
+pub set_cell-requires-clause-words : goal.set_cell-requires-clause-words
+set_cell-requires-clause-words c = row_there c.args.self.now.sheet c.args.self.now.whole c.args.row (held_row (world_of c.args.self.now) c.args.row c.args.seat.0 (c.holds.ensures.0 c.if-not-holds.false))
 
 pub returns-clause-sound : goal.returns-clause-sound
 returns-clause-sound c =

@@ -6,10 +6,14 @@ use Rattle.protocol.specs.States.{world_of}
 use Rattle.protocol_ledger.proofs.Keeping.{held_row, kept_condition}
 use Rattle.protocol.proofs.Telling.{tells_draft}
 use Rattle.protocol.proofs.Soundness.{sound_state}
+use Rattle.protocol_ledger.proofs.Sheets.{row_there}
 use Rattle.protocol.proofs.state.State.draft.Goals as goal
 
 pub set_word-requires-clause-row : goal.set_word-requires-clause-row
 set_word-requires-clause-row c = held_row (world_of c.args.self.now) c.args.row c.args.seat.0 (c.holds.ensures.0 c.if-not-holds.false)
+
+pub set_word-requires-clause-words : goal.set_word-requires-clause-words
+set_word-requires-clause-words c = row_there c.args.self.now.sheet c.args.self.now.whole c.args.row (held_row (world_of c.args.self.now) c.args.row c.args.seat.0 (c.holds.ensures.0 c.if-not-holds.false))
 
 pub returns-clause-sound : goal.returns-clause-sound
 returns-clause-sound c =

@@ -13,6 +13,7 @@ use Rattle.protocol_ledger.proofs.Keeping.{kept_condition, grant_in_range, waits
 use Rattle.protocol_ledger.proofs.Readings.{row_of_open}
 use Rattle.protocol.proofs.Telling.{tells_grant}
 use Rattle.protocol.proofs.Soundness.{sound_state}
+use Rattle.protocol_ledger.proofs.Sheets.{row_there}
 use Rattle.protocol.proofs.state.State.grant.Goals as goal
 
 -- the cause of the offer that was read
@@ -24,6 +25,9 @@ granted_by-joined-requires-clause-cause c = caused (table_of c.args.self.now.she
 
 pub set_cell-requires-clause-row : goal.set_cell-requires-clause-row
 set_cell-requires-clause-row c = row_of_open (world_of c.args.self.now).table c.args.row (ap is_fresh (sym c.in-Waiting.ensures))
+
+pub set_cell-requires-clause-words : goal.set_cell-requires-clause-words
+set_cell-requires-clause-words c = row_there c.args.self.now.sheet c.args.self.now.whole c.args.row (row_of_open (world_of c.args.self.now).table c.args.row (ap is_fresh (sym c.in-Waiting.ensures)))
 
 pub set_cell-requires-clause-range : goal.set_cell-requires-clause-range
 set_cell-requires-clause-range c =

@@ -12,6 +12,7 @@ use Rattle.protocol_ledger.proofs.Keeping.{held_row, kept_condition, join_in_ran
 use Rattle.protocol_ledger.proofs.Readings.{row_of_open}
 use Rattle.protocol.proofs.Telling.{tells_join}
 use Rattle.protocol.proofs.Soundness.{sound_state}
+use Rattle.protocol_ledger.proofs.Sheets.{row_there}
 use Rattle.protocol.proofs.state.State.join.Goals as goal
 
 pub namer-requires-clause-row : goal.namer-requires-clause-row
@@ -22,6 +23,9 @@ number-at-requires c = held_row (world_of c.args.self.now) c.args.mine c.args.se
 
 pub set_cell-requires-clause-row : goal.set_cell-requires-clause-row
 set_cell-requires-clause-row c = row_of_open (world_of c.args.self.now).table c.args.other (ap is_fresh (sym c.in-Waiting.ensures))
+
+pub set_cell-requires-clause-words : goal.set_cell-requires-clause-words
+set_cell-requires-clause-words c = row_there c.args.self.now.sheet c.args.self.now.whole c.args.other (row_of_open (world_of c.args.self.now).table c.args.other (ap is_fresh (sym c.in-Waiting.ensures)))
 
 pub set_cell-requires-clause-range : goal.set_cell-requires-clause-range
 set_cell-requires-clause-range c =

@@ -1,4 +1,5 @@
-use Rattle.std.proofs.Common.{◌∙◌, ℕ, None, Option, List, arith, ap, length, map, refl}
+use Rattle.std.proofs.Common.{◌∙◌, ℕ, None, Option, List, arith, ap, sym, length, map, refl}
+use Rattle.protocol_ledger.specs.Short.{even}
 use Rattle.std.proofs.lemmas.List.{length-map, length-replicate}
 use Rattle.protocol_values.specs.declared.Row.{Row}
 use Rattle.protocol_ledger.specs.Openings.{held_first, opening_of}
@@ -13,7 +14,7 @@ invariant_of-result c =
     let holders = map (held_first (opening_of c.args.opening.now) c.args.seats) (all_rows c.in_ok-sheet.sheet.threads c.in_ok-sheet.sheet.rows) in
     record {
       some_rows = omega (arith, c.in_ok-sheet.ensures.rows, c.requires.some_rows);
-      whole = c.in_ok-sheet.ensures.offers;
+      whole = c.in_ok-sheet.ensures.layout ∙ ap (even 8) (sym c.in_ok-sheet.ensures.rows);
       held =
           ap (λ (xs : List (Option ℕ)). length xs) c.in_ok-holders.ensures
           ∙ length-map (all_rows c.in_ok-sheet.sheet.threads c.in_ok-sheet.sheet.rows) (held_first (opening_of c.args.opening.now) c.args.seats)

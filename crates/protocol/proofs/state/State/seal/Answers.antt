@@ -15,6 +15,7 @@ use Rattle.protocol_ledger.proofs.Naming.{namer_names}
 use Rattle.protocol_ledger.proofs.Readings.{row_of_open}
 use Rattle.protocol.proofs.Telling.{tells_seal}
 use Rattle.protocol.proofs.Soundness.{sound_state}
+use Rattle.protocol_ledger.proofs.Sheets.{row_there}
 use Rattle.protocol.proofs.state.State.seal.Goals as goal
 
 pub namer-requires-clause-row : goal.namer-requires-clause-row
@@ -44,6 +45,9 @@ number-at-requires c =
 
 pub set_cell-requires-clause-row : goal.set_cell-requires-clause-row
 set_cell-requires-clause-row c = held_row (world_of c.args.self.now) c.args.row c.args.seat.0 (c.holds.ensures.0 c.if-not-holds.false)
+
+pub set_cell-requires-clause-words : goal.set_cell-requires-clause-words
+set_cell-requires-clause-words c = row_there c.args.self.now.sheet c.args.self.now.whole c.args.row (held_row (world_of c.args.self.now) c.args.row c.args.seat.0 (c.holds.ensures.0 c.if-not-holds.false))
 
 joined_is : (w : World) (row other : Row) (e : Some other ≡ namer_at w row) (j k : Option Joined) (v : Joined) → Some v ≡ side_of other j → j ≡ joined_at w.table other → v ≡ mirrored other (sealing_of w row other e).way (sealing_of w row other e).offer
 joined_is w row other e j k v a b = some_inj v _ (a ∙ ap (side_of other) b ∙ side_is w row other e)

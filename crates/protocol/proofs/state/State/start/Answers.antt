@@ -1,5 +1,6 @@
 use Rattle.std.proofs.Common.{None, arith, ap, sym, ◌∙◌, List, length, map}
 use Rattle.std.proofs.lemmas.List.{length-replicate}
+use Rattle.protocol_ledger.specs.Short.{even}
 use Rattle.std.specs.Prelude.{Option, ℕ}
 use Rattle.protocol_values.specs.declared.Row.{Row}
 use Rattle.protocol_ledger.specs.Tables.{all_rows}
@@ -11,7 +12,7 @@ use Rattle.protocol.proofs.state.State.start.Goals as goal
 pub invariant_of-result : goal.invariant_of-result
 invariant_of-result c = record {
   some_rows = omega (arith, c.in_ok-sheet.ensures.rows, c.requires.some_rows);
-  whole = c.in_ok-sheet.ensures.offers;
+  whole = c.in_ok-sheet.ensures.layout ∙ ap (even 8) (sym c.in_ok-sheet.ensures.rows);
   held = ap (λ (xs : List (Option ℕ)). length xs) c.in_ok-holders.ensures ∙ length_holders c.in_ok-sheet.sheet.threads c.in_ok-sheet.sheet.rows c.args.seats c.args.later;
   behind = ap (λ (xs : List (Option ℕ)). length xs) c.in_ok-lasts.ensures ∙ length-replicate {A = Option ℕ} c.args.threads None ∙ sym c.in_ok-sheet.ensures.threads;
   named = ap (λ (xs : List (Option Row)). length xs) c.in_ok-namers.ensures ∙ length-replicate {A = Option Row} c.len.result None ∙ c.len.ensures;

@@ -12,10 +12,14 @@ use Rattle.protocol_ledger.specs.Kept.{Kept}
 use Rattle.protocol_ledger.proofs.Keeping.{kept_took, took, took_world}
 use Rattle.protocol_ledger.proofs.Readings.{row_of_open, row_after_cell, joined_ranged}
 use Rattle.protocol.proofs.Telling.{tells_plain}
+use Rattle.protocol_ledger.proofs.Sheets.{row_there}
 use Rattle.protocol.proofs.state.State.take.Goals as goal
 
 pub set_cell-requires-clause-row : goal.set_cell-requires-clause-row
 set_cell-requires-clause-row c = row_of_open (world_of c.args.self.now).table c.args.row (ap is_fresh (sym c.in-Synched.ensures))
+
+pub set_cell-requires-clause-words : goal.set_cell-requires-clause-words
+set_cell-requires-clause-words c = row_there c.args.self.now.sheet c.args.self.now.whole c.args.row (row_of_open (world_of c.args.self.now).table c.args.row (ap is_fresh (sym c.in-Synched.ensures)))
 
 pub set_cell-requires-clause-range : goal.set_cell-requires-clause-range
 set_cell-requires-clause-range c = joined_ranged (world_of c.args.self.now).table c.args.row c.in-Synched.joined (ap joined_of (sym c.in-Synched.ensures))

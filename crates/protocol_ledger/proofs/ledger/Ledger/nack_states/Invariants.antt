@@ -1,8 +1,6 @@
-use Rattle.std.proofs.Common.{◌≡◌, ℕ, Some, length, slice_get}
-use Rattle.protocol_ledger.specs.Openings.{TellsNack}
-use Rattle.protocol_ledger.specs.declared.opening.NackState.{NackState}
-use Rattle.protocol_ledger.proofs.Closing.{nack_numbered}
+use Rattle.std.proofs.Common.{◌≡◌, ◌*◌, length}
+use Rattle.protocol_ledger.specs.Openings.{TellNacks}
 use Rattle.protocol_ledger.proofs.ledger.Ledger.nack_states.Given as goal
 
-abbrev pub invariant-loop-number : goal.invariant-loop-number
-invariant-loop-number l = (length l.states.items ≡ l.number) × ((i : ℕ) (state : NackState) → slice_get l.states.items i ≡ Some state → TellsNack l.self (nack_numbered i) state)
+abbrev pub invariant-loop-thread : goal.invariant-loop-thread
+invariant-loop-thread l = (length l.states.items ≡ l.thread * 64) × TellNacks l.self l.states.items

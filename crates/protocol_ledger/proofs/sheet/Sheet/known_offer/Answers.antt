@@ -4,7 +4,7 @@ use Rattle.protocol_values.specs.declared.Offer.{Offer}
 use Rattle.protocol_ledger.specs.Sheets.{table_of}
 use Rattle.protocol_ledger.proofs.Places.{row_inside}
 use Rattle.protocol_ledger.proofs.Readings.{offer_place}
-use Rattle.protocol_ledger.proofs.Sheets.{sheet_no_offer, sheet_offer}
+use Rattle.protocol_ledger.proofs.Sheets.{offer_there, sheet_no_offer, sheet_offer}
 use Rattle.protocol_ledger.proofs.Short.{short_inside}
 use Rattle.protocol_ledger.proofs.sheet.Sheet.known_offer.Goals as goal
 
@@ -19,15 +19,18 @@ returns-then-from-self c =
     let high = c.if-from-self.true in
     sheet_no_offer c.args.self.now c.args.row c.args.n c.requires (omega (arith, c.from.ensures, high)) ∙ c.read_offer.ensures
 
-pub place-head-requires-clause-row : goal.place-head-requires-clause-row
-place-head-requires-clause-row c = (offer_place (table_of c.args.self.now) c.args.row c.args.n c.requires).0
+pub place-head-requires-clause-thread : goal.place-head-requires-clause-thread
+place-head-requires-clause-thread c = (row_inside (table_of c.args.self.now) c.args.row (offer_place (table_of c.args.self.now) c.args.row c.args.n c.requires).0).0
+
+pub place-head-requires-clause-words : goal.place-head-requires-clause-words
+place-head-requires-clause-words c = offer_there c.args.self.now c.args.row c.args.n c.requires
 
 pub index-requires-2 : goal.index-requires-2
 index-requires-2 c =
     let s = c.args.self.now in
     let its = row_inside (table_of s) c.args.row (offer_place (table_of s) c.args.row c.args.n c.requires).0 in
     let low = c.if-from-self.false in
-    let b = short_inside s.offers s.rows s.threads c.args.row (5 + 4 * c.args.n) its.0 its.1 (omega (arith, c.from.ensures)) in
+    let b = short_inside s.layout s.threads c.args.row (5 + 4 * c.args.n) its.0 (offer_there s c.args.row c.args.n c.requires) (omega (arith, c.from.ensures)) in
     omega (arith, c.place-head.ensures.value, c.from-2.ensures, s.sized)
 
 pub index-requires-3 : goal.index-requires-3
@@ -35,7 +38,7 @@ index-requires-3 c =
     let s = c.args.self.now in
     let its = row_inside (table_of s) c.args.row (offer_place (table_of s) c.args.row c.args.n c.requires).0 in
     let low = c.if-from-self.false in
-    let b = short_inside s.offers s.rows s.threads c.args.row (5 + 4 * c.args.n) its.0 its.1 (omega (arith, c.from.ensures)) in
+    let b = short_inside s.layout s.threads c.args.row (5 + 4 * c.args.n) its.0 (offer_there s c.args.row c.args.n c.requires) (omega (arith, c.from.ensures)) in
     omega (arith, c.place-head.ensures.value, c.from-2.ensures, s.sized)
 
 pub index-requires-4 : goal.index-requires-4
@@ -43,7 +46,7 @@ index-requires-4 c =
     let s = c.args.self.now in
     let its = row_inside (table_of s) c.args.row (offer_place (table_of s) c.args.row c.args.n c.requires).0 in
     let low = c.if-from-self.false in
-    let b = short_inside s.offers s.rows s.threads c.args.row (5 + 4 * c.args.n) its.0 its.1 (omega (arith, c.from.ensures)) in
+    let b = short_inside s.layout s.threads c.args.row (5 + 4 * c.args.n) its.0 (offer_there s c.args.row c.args.n c.requires) (omega (arith, c.from.ensures)) in
     omega (arith, c.place-head.ensures.value, c.from-2.ensures, s.sized)
 
 pub read_offer-requires-2 : goal.read_offer-requires-2
