@@ -38,7 +38,7 @@ use Rattle.cell_table.specs.declared.view.Shape.{Shape}
 use Rattle.cell_table.specs.declared.view.Stage.{Stage}
 use Rattle.cell_table.specs.declared.view.Stage.TheVariants.{Resting, Claims, Joins, Aside, Left}
 use Rattle.cell_table.specs.declared.view.Seen.{Seen}
-use Rattle.cell_table.specs.Sight.{AreSettled, Has, CanJoin, Coherent, IsResult, IsStand, SawEnded, see_cell, see_held}
+use Rattle.cell_table.specs.Sight.{OpenHaveWords, AreSettled, Has, CanJoin, Coherent, IsResult, IsStand, SawEnded, see_cell, see_held}
 use Rattle.protocol.specs.Standing.{AreResults, IsLeft, Result, Stands}
 use Rattle.protocol.specs.Ledgers.{joined_in as ledger_joined, ledger_of}
 use Rattle.protocol_ledger.proofs.LedgerLemmas.{joined_in_ledger, lawful_ledger}
@@ -50,11 +50,12 @@ use Rattle.cell_table.proofs.Following.{knows_follows, knows_owned, hold_more, s
 use Rattle.cell_table.specs.Views.{Knows, RunsIn, SeesEnd, Staged, opening_by, opening_in, IsClaimer, behind_last, at_stage, did, took, took_with, saw, read_word, drafted_word, turned, word_drafted}
 use Rattle.cell_table.proofs.Truths.{offers_known, joined_known, granted_known, agrees, with_itself}
 use Rattle.cell_table.specs.Rule.{Housed, IsHome, IsReady, IsToBegin, Keeps, beginning}
+use Rattle.protocol_ledger.specs.declared.layout.Layout.{Layout}
 use Rattle.cell_table.specs.Told.{Agrees, AgreesWithItself, ComesOut, GoesHome, Inside, At, began, has_begun, cell_read, looked, has_read, glanced, drafted, opened, yielded, claimed, joined, granted, settled, taken, sealed}
 use Rattle.cell_table.proofs.Others.{knows_begun, learn_cell, learn_word, others_cell, own_cell, cell_now, cell_else, others_draft, own_draft}
 use Rattle.cell_table.proofs.Courses.{KeepsLives}
 use Rattle.cell_table.proofs.Seating.{MovesOn, Stays, saw_stays}
-use Rattle.cell_table.proofs.Turning.{world_kept, keeps_housed, keeps_seen, keeps_view, keeps_step, moved_coherent}
+use Rattle.cell_table.proofs.Turning.{keeps_housed, keeps_seen, keeps_step, keeps_view, missing_words, moved_coherent, open_words, world_kept}
 use Rattle.protocol_ledger.proofs.Short.{set_word, short_word}
 use Rattle.cell_table.proofs.Counts.{DraftsFew}
 use Rattle.cell_table.proofs.Shortness.{same_short}
@@ -63,7 +64,7 @@ use Rattle.cell_table.proofs.Standing.{comes_out, goes_home, sees_last}
 
 -- the table with these words
 abbrev pub sized : {M : Type 0} → Shape M → List ℕ → Table
-sized shape ws = wide_table shape.offers (record { threads = shape.threads; rows = shape.rows; words = ws; opening = greatest (opening_in shape) })
+sized shape ws = wide_table shape.layout (record { threads = shape.threads; rows = shape.rows; words = ws; opening = greatest (opening_in shape) })
 
 -- the word of a Waiting cell reads as one
 waiting_read : cell_read (cell_word Waiting) ≡ Waiting
@@ -93,15 +94,15 @@ module _ {M : Type 0} (stands : Stands M) where
 
   -- A pass that makes a step on a word of row r
   module _ (shape : Shape M) (id place : ℕ) (me : Me (Option M) (View M)) (r : Row) (p : ℕ)
-      (threads : me.0.threads ≡ shape.threads) (rows : me.0.rows ≡ shape.rows) (wide : me.0.offers ≡ shape.offers)
-      (inside : Inside shape.threads shape.rows r) (low : p < row_len shape.offers) (here : place ≡ short_place shape.offers shape.rows r p) where
+      (threads : me.0.threads ≡ shape.threads) (rows : me.0.rows ≡ shape.rows) (wide : me.0.layout ≡ shape.layout)
+      (inside : Inside shape.threads shape.rows shape.layout r) (low : p < row_len shape.layout.offers) (here : place ≡ short_place shape.layout r p) where
     at_table : 0 < me.0.threads
     at_table = let i = inside.0 in omega arith
 
-    one_word : (q : Row) (o : ℕ) → o < row_len me.0.offers → Inside me.0.threads me.0.rows q → place ≡ short_place me.0.offers me.0.rows q o → (r ≡ q) × (p ≡ o)
+    one_word : (q : Row) (o : ℕ) → o < row_len me.0.layout.offers → Inside me.0.threads me.0.rows me.0.layout q → place ≡ short_place me.0.layout q o → (r ≡ q) × (p ≡ o)
     one_word q o h i e =
-        same_short shape.offers shape.threads shape.rows r q p o inside (subst (λ (z : ℕ × ℕ). Inside z.0 z.1 q) (λ j. (threads j, rows j)) i) low (subst (λ (n : ℕ). o < row_len n) wide h)
-        (sym here ∙ e ∙ (λ j. short_place (wide j) (rows j) q o))
+        same_short shape.layout shape.threads shape.rows r q p o inside (subst (λ (z : ℕ × ℕ × Layout). Inside z.0 z.1 z.2 q) (λ j. (threads j, rows j, wide j)) i) low (subst (λ (y : Layout). o < row_len y.offers) wide h)
+        (sym here ∙ e ∙ (λ j. short_place (wide j) q o))
 
     abbrev IsUnended : Type 0
     IsUnended = ¬ SawEnded me.0.seen r.thread
@@ -118,17 +119,17 @@ module _ {M : Type 0} (stands : Stands M) where
 
       word_is : word_at k.world.table r p ≡ slice_index s.words place
       unfolding word_at
-      word_is = ap (λ (t : Table). word_at t r p) k.table ∙ short_word shape.offers shape.rows k.few_offers shape.threads s.words k.sized r p inside.0 inside.1 low ∙ ap (slice_index s.words) (sym here)
+      word_is = ap (λ (t : Table). word_at t r p) k.table ∙ short_word shape.layout shape.rows k.fits shape.threads s.words k.sized r p inside.0 inside.2 low ∙ ap (slice_index s.words) (sym here)
 
       -- a short row's places are among those of a row
       within : p < 34
-      within = let few = k.few_offers in omega arith
+      within = let few = k.fits.0 in omega arith
 
       -- a word is written where it stands
       wrote : (d : ℕ) → with_word (sized shape s.words) r p d ≡ sized shape (slice_set s.words place d)
       wrote d =
           ap (λ (ws : List ℕ). record { threads = shape.threads; rows = shape.rows; words = ws; opening = greatest (opening_in shape) })
-          (sym (set_word shape.offers shape.rows k.few_offers shape.threads s.words k.sized r p d inside.0 inside.1 low) ∙ ap (λ (n : ℕ). widen shape.offers shape.rows shape.threads (slice_set s.words n d)) (sym here))
+          (sym (set_word shape.layout shape.rows k.fits shape.threads s.words k.sized r p d inside.0 inside.2 low) ∙ ap (λ (n : ℕ). widen shape.layout shape.rows shape.threads (slice_set s.words n d)) (sym here))
 
       kept_size : (d : ℕ) → length (slice_set s.words place d) ≡ length s.words
       kept_size d = length-set s.words place d
@@ -170,7 +171,7 @@ module _ {M : Type 0} (stands : Stands M) where
       lives stand alive = alive_unseen k.world me.0.seen r.thread (stand_ends k.world k.owner id me.0 known r stand) alive
 
       -- where it writes a word behind the cell
-      wrote_word : (d : ℕ) → (p ≡ 1 → unwrap_or (count_of d) 0 ≤ shape.offers) → me.0.stage ≡ Resting → Has me.0.seen.held r → ¬ Has me.0.seen.opened r → IsUnended → 1 ≤ p → is_word_for p d ≡ true → Keeps stands shape (stepped s place d id me.1 (word_drafted r p d me.0) keeps)
+      wrote_word : (d : ℕ) → (p ≡ 1 → unwrap_or (count_of d) 0 ≤ shape.layout.offers) → me.0.stage ≡ Resting → Has me.0.seen.held r → ¬ Has me.0.seen.opened r → IsUnended → 1 ≤ p → is_word_for p d ≡ true → Keeps stands shape (stepped s place d id me.1 (word_drafted r p d me.0) keeps)
       wrote_word d few resting held unopened alive high formed =
           let mine = known.mine r held in
           let fresh = known.fresh r held unopened in
@@ -217,7 +218,7 @@ module _ {M : Type 0} (stands : Stands M) where
             → ((q : Row) → IsToBegin w q → IsToBegin me.0 q)
             → LeavesHomes done
             → KeepsLives done
-            → DraftsFew shape.offers done
+            → DraftsFew shape.layout.offers done
             → MovesOn me.0 w done
             → Knows later k.owner id w
             → Keeps stands shape (stepped s place (cell_word c) id me.1 (did done w) keeps)
@@ -506,9 +507,9 @@ module _ {M : Type 0} (stands : Stands M) where
           now)
 
   module _ (shape : Shape M) (slots id place : ℕ) (me : Me (Option M) (View M)) (r : Row)
-      (threads : me.0.threads ≡ shape.threads) (rows : me.0.rows ≡ shape.rows) (wide : me.0.offers ≡ shape.offers)
-      (inside : Inside shape.threads shape.rows r) where
-    pub look_allowed : place ≡ short_place shape.offers shape.rows r 0 → Allows (Keeps stands shape) slots id me place (λ n. n) (looked (step slots place 0 0 none) me)
+      (threads : me.0.threads ≡ shape.threads) (rows : me.0.rows ≡ shape.rows) (wide : me.0.layout ≡ shape.layout)
+      (inside : Inside shape.threads shape.rows shape.layout r) where
+    pub look_allowed : place ≡ short_place shape.layout r 0 → Allows (Keeps stands shape) slots id me place (λ n. n) (looked (step slots place 0 0 none) me)
     look_allowed here s k homes view range =
         let c = cell_read (slice_index s.words place) in
         let knows = known shape id place me r 0 threads rows wide inside (omega arith) here s k view in
@@ -519,21 +520,25 @@ module _ {M : Type 0} (stands : Stands M) where
           learnt shape id place me r 0 threads rows wide inside (omega arith) here s k view (saw r c me.0) refl refl refl refl (saw_stays r c me.0) (saw_begins shape id place me r 0 threads rows wide inside (omega arith) here s k view c) (learn_cell k.world k.owner id me.0 r c knows read),
           λ q at.
               let there = seen_there k.world k.owner id me r q c (world_kept stands shape s k) knows read (one_word shape id place me r 0 threads rows wide inside (omega arith) here q 0 (omega arith) at.0 at.1).0 in
-              (there.0, there.1, with_itself k.world k.owner id (saw r c me.0) (learn_cell k.world k.owner id me.0 r c knows read) (world_kept stands shape s k), is_cell shape id place me r 0 threads rows wide inside (omega arith) here s k view refl),
+              (there.0, there.1, with_itself k.world k.owner id (saw r c me.0) (learn_cell k.world k.owner id me.0 r c knows read) (world_kept stands shape s k) (open_words stands shape s k wide), is_cell shape id place me r 0 threads rows wide inside (omega arith) here s k view refl),
         )
 
     -- whoever learns nothing sees that what he has seen is of one table
-    pub glance_allowed : place ≡ short_place shape.offers shape.rows r 0 → Allows (Keeps stands shape) slots id me place (λ n. n) (glanced (step slots place 0 0 none) me)
+    pub glance_allowed : place ≡ short_place shape.layout r 0 → Allows (Keeps stands shape) slots id me place (λ n. n) (glanced (step slots place 0 0 none) me)
     glance_allowed here s k homes view range =
         let knows = known shape id place me r 0 threads rows wide inside (omega arith) here s k view in (
           me.0,
           keeps,
           tt,
           learnt shape id place me r 0 threads rows wide inside (omega arith) here s k view me.0 refl refl refl refl (refl, refl, refl, refl, refl, λ q h. inl h) (λ q h. h) knows,
-          (refl, with_itself k.world k.owner id me.0 knows (world_kept stands shape s k)),
+          (
+            refl,
+            with_itself k.world k.owner id me.0 knows (world_kept stands shape s k) (open_words stands shape s k wide),
+            λ q its row none. agrees k.world k.owner id me.0 knows (world_kept stands shape s k) q Fresh (missing_words stands shape s k wide q none),
+          ),
         )
 
-    pub read_allowed : (p : ℕ) → 1 ≤ p → p < row_len shape.offers → Has me.0.seen.opened r → place ≡ short_place shape.offers shape.rows r p → Allows (Keeps stands shape) slots id me place (λ n. n) (has_read (step slots place 0 0 none) me)
+    pub read_allowed : (p : ℕ) → 1 ≤ p → p < row_len shape.layout.offers → Has me.0.seen.opened r → place ≡ short_place shape.layout r p → Allows (Keeps stands shape) slots id me place (λ n. n) (has_read (step slots place 0 0 none) me)
     read_allowed p high low seen here s k homes view range =
         let x = slice_index s.words place in
         let knows = known shape id place me r p threads rows wide inside low here s k view in (
@@ -544,15 +549,15 @@ module _ {M : Type 0} (stands : Stands M) where
               (learn_word k.world k.owner id me.0 r p x knows (knows.opened r seen) high (within shape id place me r p threads rows wide inside low here s k view) (word_is shape id place me r p threads rows wide inside low here s k view)),
           λ q o h at. (
             ap (λ (z : Row × ℕ). (read_word z.0 z.1 x me.0, me.1)) (let e = one_word shape id place me r p threads rows wide inside low here q o h at.0 at.1 in λ i. (e.0 i, e.1 i)),
-            with_itself k.world k.owner id (read_word r p x me.0) (learn_word k.world k.owner id me.0 r p x knows (knows.opened r seen) high (within shape id place me r p threads rows wide inside low here s k view) (word_is shape id place me r p threads rows wide inside low here s k view)) (world_kept stands shape s k),
+            with_itself k.world k.owner id (read_word r p x me.0) (learn_word k.world k.owner id me.0 r p x knows (knows.opened r seen) high (within shape id place me r p threads rows wide inside low here s k view) (word_is shape id place me r p threads rows wide inside low here s k view)) (world_kept stands shape s k) (open_words stands shape s k wide),
             λ first.
                 let second : p ≡ 1 = (one_word shape id place me r p threads rows wide inside low here q o h at.0 at.1).1 ∙ first in
-                subst (λ (z : ℕ × ℕ). unwrap_or (count_of z.0) 0 ≤ z.1) (λ i. ((ap (word_at k.world.table r) (sym second) ∙ word_is shape id place me r p threads rows wide inside low here s k view) i, sym wide i))
+                subst (λ (z : ℕ × ℕ). unwrap_or (count_of z.0) 0 ≤ z.1) (λ i. ((ap (word_at k.world.table r) (sym second) ∙ word_is shape id place me r p threads rows wide inside low here s k view) i, ap (λ (y : Layout). y.offers) (sym wide) i))
                 (k.counts r (is_its_row shape id place me r p threads rows wide inside low here s k view)),
           ),
         )
 
-    pub draft_allowed : (p d : ℕ) → 1 ≤ p → p < row_len shape.offers → is_word_for p d ≡ true → (p ≡ 1 → unwrap_or (count_of d) 0 ≤ shape.offers) → me.0.stage ≡ Resting → Has me.0.seen.held r → ¬ Has me.0.seen.opened r → (¬ SawEnded me.0.seen r.thread) → place ≡ short_place shape.offers shape.rows r p
+    pub draft_allowed : (p d : ℕ) → 1 ≤ p → p < row_len shape.layout.offers → is_word_for p d ≡ true → (p ≡ 1 → unwrap_or (count_of d) 0 ≤ shape.layout.offers) → me.0.stage ≡ Resting → Has me.0.seen.held r → ¬ Has me.0.seen.opened r → (¬ SawEnded me.0.seen r.thread) → place ≡ short_place shape.layout r p
         → Allows (Keeps stands shape) slots id me place (λ n. d) (λ n. drafted (step slots place d 0 none) me d)
     draft_allowed p d high low formed few resting held unopened alive here s k homes view range =
         let after = word_drafted r p d me.0 in
@@ -569,7 +574,7 @@ module _ {M : Type 0} (stands : Stands M) where
 
     -- a held row that is not opened
     pub open_allowed : slots ≡ length shape.first.value.items → (0 < length shape.first.value.items → length shape.first.value.items ≡ shape.threads) → me.0.stage ≡ Resting → Has me.0.seen.held r → ¬ Has me.0.seen.opened r → (¬ SawEnded me.0.seen r.thread)
-        → (0 < length shape.first.value.items → (value : M) × (me.1 ≡ (r.thread, Some value) ∷ rest me.1) × IsReady stands shape.first.value.items me.0.results me.0.seen r value) → place ≡ short_place shape.offers shape.rows r 0
+        → (0 < length shape.first.value.items → (value : M) × (me.1 ≡ (r.thread, Some value) ∷ rest me.1) × IsReady stands shape.first.value.items me.0.results me.0.seen r value) → place ≡ short_place shape.layout r 0
         → Allows (Keeps stands shape) slots id me place (λ n. cell_word Waiting) (λ n. opened (step slots place (cell_word Waiting) 0 none) me (cell_word Waiting))
     open_allowed count full resting held unopened alive parked here s k homes view range = by_slots (some_or_none shape.first.value.items)
       where
@@ -577,7 +582,7 @@ module _ {M : Type 0} (stands : Stands M) where
         after = did (Open r) (turned Resting r me.0)
 
         firsts : me.0.first ≡ shape.first.value.items
-        firsts = ap (λ (z : List (Option M) × Opening × ℕ). z.0) (k.firsts id me.0 view (at_table shape id place me r 0 threads rows wide inside (omega arith) here))
+        firsts = ap (λ (z : List (Option M) × Opening × Layout). z.0) (k.firsts id me.0 view (at_table shape id place me r 0 threads rows wide inside (omega arith) here))
 
         told : (c : List (ℕ × Option M)) → GoesHome me.0.first me.1 c → AgreesWithItself after → opened (step slots place (cell_word Waiting) 0 none) me (cell_word Waiting) (after, c)
         told c home agree q at = (ap (λ (z : Row). did (Open z) (turned Resting z me.0)) (one_word shape id place me r 0 threads rows wide inside (omega arith) here q 0 (omega arith) at.0 at.1).0, home, agree)
@@ -610,13 +615,13 @@ module _ {M : Type 0} (stands : Stands M) where
             )
 
     -- the first row of a thread, with which the pass has not begun
-    pub begin_allowed : (0 < length shape.first.value.items) → r.sync ≡ 0 → Has me.0.seen.held r → ¬ Has me.0.seen.begun r → place ≡ short_place shape.offers shape.rows r 0
+    pub begin_allowed : (0 < length shape.first.value.items) → r.sync ≡ 0 → Has me.0.seen.held r → ¬ Has me.0.seen.begun r → place ≡ short_place shape.layout r 0
         → Allows (Keeps stands shape) slots id me place (λ n. n) (has_begun (step slots place 0 0 none) me)
     begin_allowed some_first zero held unbegun here s k homes view range =
         let knows = known shape id place me r 0 threads rows wide inside (omega arith) here s k view in
         let after : View M = began r me.0 in
         let to_begin : IsToBegin me.0 r = (zero, inl held, unbegun) in
-        let firsts : me.0.first ≡ shape.first.value.items = ap (λ (z : List (Option M) × Opening × ℕ). z.0) (k.firsts id me.0 view (at_table shape id place me r 0 threads rows wide inside (omega arith) here)) in
+        let firsts : me.0.first ≡ shape.first.value.items = ap (λ (z : List (Option M) × Opening × Layout). z.0) (k.firsts id me.0 view (at_table shape id place me r 0 threads rows wide inside (omega arith) here)) in
         let started : course_at k.world.table r.thread ≢ Unstarted = (world_kept stands shape s k).begun r (is_held k.world r me.0.seat (knows.mine r held).1) in
         let others = none_begins shape id place me r 0 threads rows wide inside (omega arith) here s k view held in
         let waits = first_out stands shape.first.value.items k.world r s.homes s.views id me.0 after (world_kept stands shape s k) to_begin started others view (at_table shape id place me r 0 threads rows wide inside (omega arith) here) (λ q b. began_before q b) (k.housed some_first) in
@@ -632,7 +637,7 @@ module _ {M : Type 0} (stands : Stands M) where
                 waits.value,
                 ap (λ (l : List (Option M)). slice_get l q.thread) firsts ∙ ap (λ (z : Row). slice_get shape.first.value.items z.thread) (sym same) ∙ waits.is_first,
                 ap (λ (z : Row). (began z me.0, (z.thread, Some waits.value) ∷ me.1)) same,
-                with_itself k.world k.owner id after (knows_begun k.world k.owner id me.0 r knows) (world_kept stands shape s k),
+                with_itself k.world k.owner id after (knows_begun k.world k.owner id me.0 r knows) (world_kept stands shape s k) (open_words stands shape s k wide),
               ),
         )
       where
@@ -640,7 +645,7 @@ module _ {M : Type 0} (stands : Stands M) where
         began_before q b = ((b.0, b.1, (λ h. b.2 (inr h))), λ e. b.2 (inl (sym e)))
 
     -- a row that this call has claimed
-    pub yield_allowed : me.0.stage ≡ Claims r → Has me.0.seen.held r → place ≡ short_place shape.offers shape.rows r 0
+    pub yield_allowed : me.0.stage ≡ Claims r → Has me.0.seen.held r → place ≡ short_place shape.layout r 0
         → Allows (Keeps stands shape) slots id me place (λ n. cell_word Waiting) (λ n. yielded (step slots place (cell_word Waiting) 0 none) me (cell_word Waiting))
     yield_allowed claiming held here s k homes view range =
         let after = did (Yield r) (turned Resting r me.0) in
@@ -656,7 +661,7 @@ module _ {M : Type 0} (stands : Stands M) where
         )
 
     -- a held row: where it is Waiting, it is this call's
-    pub claim_allowed : me.0.stage ≡ Resting → Has me.0.seen.held r → place ≡ short_place shape.offers shape.rows r 0
+    pub claim_allowed : me.0.stage ≡ Resting → Has me.0.seen.held r → place ≡ short_place shape.layout r 0
         → Allows (Keeps stands shape) slots id me place (λ n. either (eqb n (cell_word Waiting)) (cell_word Claimed) n) (claimed (step slots place (cell_word Waiting) (cell_word Claimed) none) me)
     claim_allowed resting held here s k homes view range =
         let n = slice_index s.words place in
@@ -690,10 +695,10 @@ module _ {M : Type 0} (stands : Stands M) where
         ))
 
   module _ (shape : Shape M) (slots id place : ℕ) (me : Me (Option M) (View M)) (r : Row)
-      (threads : me.0.threads ≡ shape.threads) (rows : me.0.rows ≡ shape.rows) (wide : me.0.offers ≡ shape.offers)
-      (inside : Inside shape.threads shape.rows r) where
+      (threads : me.0.threads ≡ shape.threads) (rows : me.0.rows ≡ shape.rows) (wide : me.0.layout ≡ shape.layout)
+      (inside : Inside shape.threads shape.rows shape.layout r) where
     -- another row: where it is Waiting, it is joined with the row that this call has claimed
-    pub join_allowed : (mine : Row) (own partner : ℕ) (j : Joined) → me.0.stage ≡ Claims mine → Has me.0.seen.held mine → CanJoin me.0.seen mine own r partner j → IsJoinedInRange j → place ≡ short_place shape.offers shape.rows r 0
+    pub join_allowed : (mine : Row) (own partner : ℕ) (j : Joined) → me.0.stage ≡ Claims mine → Has me.0.seen.held mine → CanJoin me.0.seen mine own r partner j → IsJoinedInRange j → place ≡ short_place shape.layout r 0
         → Allows (Keeps stands shape) slots id me place (λ n. either (eqb n (cell_word Waiting)) (cell_word (Synched j)) n) (joined (step slots place (cell_word Waiting) (cell_word (Synched j)) none) me)
     join_allowed mine own partner j claiming held can in_range here s k homes view range =
         let n = slice_index s.words place in
@@ -744,7 +749,7 @@ module _ {M : Type 0} (stands : Stands M) where
             row_in (Joins m o j) = m
 
     -- a row that is committed alone, where it is Waiting
-    pub grant_allowed : (n : ℕ) (j : Joined) → me.0.stage ≡ Resting → CanGrant me.0.seen r n j → IsJoinedInRange j → place ≡ short_place shape.offers shape.rows r 0
+    pub grant_allowed : (n : ℕ) (j : Joined) → me.0.stage ≡ Resting → CanGrant me.0.seen r n j → IsJoinedInRange j → place ≡ short_place shape.layout r 0
         → Allows (Keeps stands shape) slots id me place (λ x. either (eqb x (cell_word Waiting)) (cell_word (Synched j)) x) (granted (step slots place (cell_word Waiting) (cell_word (Synched j)) none) me)
     grant_allowed n j resting can in_range here s k homes view range =
         let x = slice_index s.words place in
@@ -783,7 +788,7 @@ module _ {M : Type 0} (stands : Stands M) where
         ))
 
     -- a committed row, where it is Synched: it is taken
-    pub take_allowed : slots ≡ length shape.first.value.items → me.0.stage ≡ Resting → (j : Joined) → IsJoinedInRange j → place ≡ short_place shape.offers shape.rows r 0
+    pub take_allowed : slots ≡ length shape.first.value.items → me.0.stage ≡ Resting → (j : Joined) → IsJoinedInRange j → place ≡ short_place shape.layout r 0
         → Allows (Keeps stands shape) slots id me place (λ x. either (eqb x (cell_word (Synched j))) (cell_word (Taken j)) x) (taken stands (step slots place (cell_word (Synched j)) (cell_word (Taken j)) none) me)
     take_allowed count resting j in_range here s k homes view range =
         exchanged x (cell_word (Synched j)) (cell_word (Taken j))
@@ -814,7 +819,7 @@ module _ {M : Type 0} (stands : Stands M) where
         knows = known shape id place me r 0 threads rows wide inside (omega arith) here s k view
 
         firsts : me.0.first ≡ shape.first.value.items
-        firsts = ap (λ (z : List (Option M) × Opening × ℕ). z.0) (k.firsts id me.0 view (at_table shape id place me r 0 threads rows wide inside (omega arith) here))
+        firsts = ap (λ (z : List (Option M) × Opening × Layout). z.0) (k.firsts id me.0 view (at_table shape id place me r 0 threads rows wide inside (omega arith) here))
 
         one : (q : Row) → At (step {S = Option M} slots place (cell_word (Synched j)) (cell_word (Taken j)) none) me q 0 → r ≡ q
         one q at = (one_word shape id place me r 0 threads rows wide inside (omega arith) here q 0 (omega arith) at.0 at.1).0
@@ -878,7 +883,7 @@ module _ {M : Type 0} (stands : Stands M) where
             )
 
     -- a row that this call has claimed, and joined with another
-    pub seal_allowed : (other : Row) (own : ℕ) (j : Joined) → me.0.stage ≡ Joins r other j → j.partner ≡ Some (r, own) → Has me.0.seen.held r → IsJoinedInRange (mirrored other j own) → place ≡ short_place shape.offers shape.rows r 0
+    pub seal_allowed : (other : Row) (own : ℕ) (j : Joined) → me.0.stage ≡ Joins r other j → j.partner ≡ Some (r, own) → Has me.0.seen.held r → IsJoinedInRange (mirrored other j own) → place ≡ short_place shape.layout r 0
         → Allows (Keeps stands shape) slots id me place (λ n. cell_word (Synched (mirrored other j own))) (λ n. sealed (step slots place (cell_word (Synched (mirrored other j own))) 0 none) me (cell_word (Synched (mirrored other j own))))
     seal_allowed other own j joining_now partner_is held in_range here s k homes view range =
         let after = did (Seal r) (settled r (mirrored other j own) me.0) in
@@ -899,18 +904,18 @@ module _ {M : Type 0} (stands : Stands M) where
 
 module _ {M : Type 0} where
   -- the row is inside the table that the view speaks of
-  pub at_view : (shape : Shape M) (v : View M) (r : Row) → v.threads ≡ shape.threads → v.rows ≡ shape.rows → Inside shape.threads shape.rows r → Inside v.threads v.rows r
-  at_view shape v r threads rows inside = subst (λ (z : ℕ × ℕ). Inside z.0 z.1 r) (λ i. (sym threads i, sym rows i)) inside
+  pub at_view : (shape : Shape M) (v : View M) (r : Row) → v.threads ≡ shape.threads → v.rows ≡ shape.rows → v.layout ≡ shape.layout → Inside shape.threads shape.rows shape.layout r → Inside v.threads v.rows v.layout r
+  at_view shape v r threads rows wide inside = subst (λ (z : ℕ × ℕ × Layout). Inside z.0 z.1 z.2 r) (λ i. (sym threads i, sym rows i, sym wide i)) inside
 
-  pub place_view : (shape : Shape M) (v : View M) (r : Row) (p place : ℕ) → v.rows ≡ shape.rows → v.offers ≡ shape.offers → place ≡ short_place shape.offers shape.rows r p → place ≡ short_place v.offers v.rows r p
-  place_view shape v r p place rows wide e = e ∙ (λ i. short_place (sym wide i) (sym rows i) r p)
+  pub place_view : (shape : Shape M) (v : View M) (r : Row) (p place : ℕ) → v.layout ≡ shape.layout → place ≡ short_place shape.layout r p → place ≡ short_place v.layout r p
+  place_view shape v r p place wide e = e ∙ (λ i. short_place (sym wide i) r p)
 
   -- a pass that has moved still sits at its table
-  pub sits_still : (b : Board M) (old new : Seat (Option M) (View M)) → Sits b old → new.table_id ≡ old.table_id → new.me.0.threads ≡ old.me.0.threads → new.me.0.rows ≡ old.me.0.rows → new.me.0.offers ≡ old.me.0.offers → new.me.0.first ≡ old.me.0.first → new.me.0.lives ≡ old.me.0.lives → new.me.0.nacks ≡ old.me.0.nacks → AgreesWithItself new.me.0 → Sits b new
+  pub sits_still : (b : Board M) (old new : Seat (Option M) (View M)) → Sits b old → new.table_id ≡ old.table_id → new.me.0.threads ≡ old.me.0.threads → new.me.0.rows ≡ old.me.0.rows → new.me.0.layout ≡ old.me.0.layout → new.me.0.first ≡ old.me.0.first → new.me.0.lives ≡ old.me.0.lives → new.me.0.nacks ≡ old.me.0.nacks → AgreesWithItself new.me.0 → Sits b new
   sits_still b old new sits table threads rows wide first lives nacks agree =
       let same_threads = threads ∙ sits.1 in
       let same_rows = rows ∙ sits.2 in
-      (table ∙ sits.0, same_threads, same_rows, subst (λ (z : ℕ × ℕ). Coherent z.0 z.1 new.me.0.seen) (λ i. (same_threads i, same_rows i)) agree.0, first ∙ sits.4, lives ∙ sits.5, nacks ∙ sits.6, subst (λ (o : Opening). AreSettled o new.me.0.seen) (λ i. record { threads = (lives ∙ sits.5) i; nacks = (nacks ∙ sits.6) i }) agree.1, wide ∙ sits.8)
+      (table ∙ sits.0, same_threads, same_rows, subst (λ (z : ℕ × ℕ). Coherent z.0 z.1 new.me.0.seen) (λ i. (same_threads i, same_rows i)) agree.0, first ∙ sits.4, lives ∙ sits.5, nacks ∙ sits.6, subst (λ (o : Opening). AreSettled o new.me.0.seen) (λ i. record { threads = (lives ∙ sits.5) i; nacks = (nacks ∙ sits.6) i }) agree.1, wide ∙ sits.8, subst (λ (y : Layout). OpenHaveWords y new.me.0.seen) (wide ∙ sits.8) agree.2)
 
 -- no other word reads as a cell that is not Fresh
 pub not_cell : (c : Cell) (n : ℕ) → c ≢ Fresh → n ≢ cell_word c → cell_read n ≢ c

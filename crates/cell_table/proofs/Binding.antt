@@ -7,6 +7,7 @@ use lib.ListN.{get_elem?}
 use prog.Atomic.{either}
 use Rattle.atomic_table.specs.Table.{State, Me, Allows, Act, Valid, step, keeps, stepped, carried_after}
 use Rattle.atomic_table.proofs.Lists.{exchanged}
+use Rattle.protocol_ledger.specs.declared.layout.Layout.{Layout}
 use Rattle.protocol_values.specs.Words.{nack_of, nack_word, IsBindingInRange}
 use Rattle.protocol_values.proofs.WordLemmas.{nack_of-nack_word, nack_word-nack_of}
 use Rattle.protocol_values.specs.declared.NackName.{NackName}
@@ -21,7 +22,7 @@ use Rattle.protocol.specs.Openings.{Opening, greatest}
 use Rattle.protocol.specs.Worlds.{World, holder_at, with_nack, with_table}
 use Rattle.protocol.specs.Kept.{Kept}
 use Rattle.protocol_ledger.proofs.Linking.{cases_Option, some_inj, some_parts}
-use Rattle.protocol.specs.Short.{short_nack_place, widen}
+use Rattle.protocol.specs.Short.{HasWords, short_nack_place, widen}
 use Rattle.protocol_ledger.proofs.Places.{word_bound}
 use Rattle.protocol_ledger.proofs.Short.{set_nack, short_nack}
 use Rattle.cell_table.proofs.Shortness.{same_short_nack}
@@ -46,7 +47,7 @@ use Rattle.cell_table.proofs.Following.{Follows, knows_bound, knows_follows, ali
 use Rattle.cell_table.proofs.Others.{learn_nack}
 use Rattle.cell_table.proofs.Truths.{with_itself}
 use Rattle.cell_table.proofs.Seating.{Stays}
-use Rattle.cell_table.proofs.Turning.{world_kept, keeps_view, keeps_step, moved_coherent}
+use Rattle.cell_table.proofs.Turning.{keeps_step, keeps_view, moved_coherent, open_words, world_kept}
 
 pub nack_from : (t : Table) (n : NackName) → n.thread < t.threads → n.k < 64 → is_nack t n ≡ true
 unfolding is_nack
@@ -79,16 +80,16 @@ carried_so (Carried s) stamp e = ap Carried (some_inj s stamp e)
 
 module _ {M : Type 0} where
   -- a look at a nack leaves what a pass knows of its table
-  pub looked_same : (n : NackName) (says : NackWord) (v : View M) → ((saw_nack n says v).threads ≡ v.threads) × ((saw_nack n says v).rows ≡ v.rows) × ((saw_nack n says v).first ≡ v.first) × ((saw_nack n says v).lives ≡ v.lives) × ((saw_nack n says v).nacks ≡ v.nacks) × ((saw_nack n says v).offers ≡ v.offers)
+  pub looked_same : (n : NackName) (says : NackWord) (v : View M) → ((saw_nack n says v).threads ≡ v.threads) × ((saw_nack n says v).rows ≡ v.rows) × ((saw_nack n says v).first ≡ v.first) × ((saw_nack n says v).lives ≡ v.lives) × ((saw_nack n says v).nacks ≡ v.nacks) × ((saw_nack n says v).layout ≡ v.layout)
   looked_same n Unbound v = (refl, refl, refl, refl, refl, refl)
   looked_same n (Bound b) v = (refl, refl, refl, refl, refl, refl)
   looked_same n (Carried stamp) v = (refl, refl, refl, refl, refl, refl)
 
   -- what was seen by then agrees with itself
-  coherent_nack : (w : World) (owner : Row → ℕ) (id : ℕ) (v : View M) (n : NackName) (says : NackWord) → Knows w owner id (saw_nack n says v) → Kept w → AgreesWithItself (saw_nack n says v)
-  coherent_nack w owner id v n Unbound k kept = with_itself w owner id v k kept
-  coherent_nack w owner id v n (Bound b) k kept = with_itself w owner id (bound_nack n b v) k kept
-  coherent_nack w owner id v n (Carried stamp) k kept = with_itself w owner id (carried_nack n stamp v) k kept
+  coherent_nack : (w : World) (owner : Row → ℕ) (id : ℕ) (v : View M) (n : NackName) (says : NackWord) → Knows w owner id (saw_nack n says v) → Kept w → ((r : Row) → is_fresh (cell_at w.table r) ≡ false → HasWords v.layout r) → AgreesWithItself (saw_nack n says v)
+  coherent_nack w owner id v n Unbound k kept words = with_itself w owner id v k kept words
+  coherent_nack w owner id v n (Bound b) k kept words = with_itself w owner id (bound_nack n b v) k kept words
+  coherent_nack w owner id v n (Carried stamp) k kept words = with_itself w owner id (carried_nack n stamp v) k kept words
 
   -- a nack is bound to no row behind a held Fresh one
   not_behind : (w : World) (owner : Row → ℕ) (id : ℕ) (v : View M) → Knows w owner id v → Kept w → (nack : NackName) (b c : Binding) → binding_at w.table nack ≡ Some c
@@ -139,15 +140,15 @@ taken_opened (Taken j) e = refl
 module _ {M : Type 0} (stands : Stands M) where
   -- A pass that makes a step on the word of a nack
   module _ (shape : Shape M) (id place : ℕ) (me : Me (Option M) (View M)) (nack : NackName)
-      (threads : me.0.threads ≡ shape.threads) (rows : me.0.rows ≡ shape.rows) (wide : me.0.offers ≡ shape.offers)
-      (inside : InsideNack shape.threads nack) (here : place ≡ short_nack_place shape.offers shape.rows nack) where
+      (threads : me.0.threads ≡ shape.threads) (rows : me.0.rows ≡ shape.rows) (wide : me.0.layout ≡ shape.layout)
+      (inside : InsideNack shape.threads nack) (here : place ≡ short_nack_place shape.layout nack) where
     at_table : 0 < me.0.threads
     at_table = let i = inside.0 in omega arith
 
-    one_nack : (m : NackName) → InsideNack me.0.threads m → place ≡ short_nack_place me.0.offers me.0.rows m → nack ≡ m
+    one_nack : (m : NackName) → InsideNack me.0.threads m → place ≡ short_nack_place me.0.layout m → nack ≡ m
     one_nack m i e =
         let there : InsideNack shape.threads m = subst (λ (n : ℕ). InsideNack n m) threads i in
-        let same = same_short_nack shape.offers shape.threads shape.rows nack m inside there (sym here ∙ e ∙ (λ j. short_nack_place (wide j) (rows j) m)) in
+        let same = same_short_nack shape.layout shape.threads nack m inside there (sym here ∙ e ∙ (λ j. short_nack_place (wide j) m)) in
         λ x. record { thread = same.0 x; k = same.1 x }
 
     module _ (s : State (Option M) (View M)) (k : Keeps stands shape s) (view : get_elem? s.views id ≡ some me.0) where
@@ -162,7 +163,7 @@ module _ {M : Type 0} (stands : Stands M) where
 
       word_is : nack_at k.world.table nack ≡ slice_index s.words place
       unfolding nack_at
-      word_is = ap (λ (t : Table). nack_at t nack) k.table ∙ short_nack shape.offers shape.rows k.few_offers shape.threads s.words k.sized nack inside.0 inside.1 ∙ ap (slice_index s.words) (sym here)
+      word_is = ap (λ (t : Table). nack_at t nack) k.table ∙ short_nack shape.layout shape.rows k.fits shape.threads s.words k.sized nack inside.0 inside.1 ∙ ap (slice_index s.words) (sym here)
 
       says_is : nack_says k.world.table nack ≡ nack_read (slice_index s.words place)
       says_is = says_inside k.world.table nack is_its_nack ∙ ap (λ w. unwrap_or (nack_of w) Unbound) word_is
@@ -232,7 +233,7 @@ module _ {M : Type 0} (stands : Stands M) where
       -- a nack that is bound to an earlier row of a held row's thread
       earlier_there : (b : Binding) → Has me.0.seen.held (bound_row nack b) → (c : Binding) → binding_at k.world.table nack ≡ Some c → c.sync < b.sync → 0 < length me.0.first → IsEarlier stands me.0.first me.0.results nack c
       earlier_there b held c is below filled =
-          let firsts : me.0.first ≡ shape.first.value.items = ap (λ (z : List (Option M) × Opening × ℕ). z.0) (k.firsts id me.0 view at_table) in
+          let firsts : me.0.first ≡ shape.first.value.items = ap (λ (z : List (Option M) × Opening × Layout). z.0) (k.firsts id me.0 view at_table) in
           let taken : is_taken (cell_at k.world.table (bound_row nack c)) ≡ true = taken_before k.world kept (bound_row nack c) (bound_row nack b) refl below (inr (me.0.seat, (known.mine (bound_row nack b) held).1)) in
           subst (λ (l : List (Option M)). IsEarlier stands l me.0.results nack c) (sym firsts)
           (is_earlier stands shape.first.value.items k.world k.owner id me.0 known kept nack c (k.housed (subst (λ (l : List (Option M)). 0 < length l) firsts filled)).rows (λ t rs h. k.results id me.0 t rs view h)
@@ -312,15 +313,15 @@ module _ {M : Type 0} (stands : Stands M) where
             (record { same = (refl, refl, refl); acted = rests; goes = stays_on; acts = rests; held = λ q h. h; begun = λ q h. h; binds = λ n q scope e. subst (Has me.0.seen.held) (ap row_bound e) held }) (λ t rs h. inl h)
             (ap (λ (t : Table). with_nack t nack b) k.table
             ∙ ap (λ (ws : List ℕ). record { threads = shape.threads; rows = shape.rows; words = ws; opening = greatest (opening_in shape) })
-            (sym (set_nack shape.offers shape.rows k.few_offers shape.threads s.words k.sized nack (nack_word (Bound b)) inside.0 inside.1) ∙ ap (λ (n : ℕ). widen shape.offers shape.rows shape.threads (slice_set s.words n (nack_word (Bound b)))) (sym here)))
+            (sym (set_nack shape.layout shape.rows k.fits shape.threads s.words k.sized nack (nack_word (Bound b)) inside.0 inside.1) ∙ ap (λ (n : ℕ). widen shape.layout shape.rows shape.threads (slice_set s.words n (nack_word (Bound b)))) (sym here)))
             (length-set s.words place (nack_word (Bound b)))
             (λ j u n e t. others j u n (k.knows j u e t))
             own
 
   module _ (shape : Shape M) (slots id place : ℕ) (me : Me (Option M) (View M)) (nack : NackName)
-      (threads : me.0.threads ≡ shape.threads) (rows : me.0.rows ≡ shape.rows) (wide : me.0.offers ≡ shape.offers)
+      (threads : me.0.threads ≡ shape.threads) (rows : me.0.rows ≡ shape.rows) (wide : me.0.layout ≡ shape.layout)
       (inside : InsideNack shape.threads nack) where
-    pub look_nack_allowed : place ≡ short_nack_place shape.offers shape.rows nack → Allows (Keeps stands shape) slots id me place (λ n. n) (looked_nack (step slots place 0 0 none) me)
+    pub look_nack_allowed : place ≡ short_nack_place shape.layout nack → Allows (Keeps stands shape) slots id me place (λ n. n) (looked_nack (step slots place 0 0 none) me)
     look_nack_allowed here s k homes view range =
         let o = nack_read (slice_index s.words place) in (
           saw_nack nack o me.0,
@@ -331,12 +332,12 @@ module _ {M : Type 0} (stands : Stands M) where
               let same = one_nack shape id place me nack threads rows wide inside here m at.0 at.1 in (
                 ap (λ (n : NackName). (saw_nack n o me.0, me.1)) same,
                 agrees_nack shape id place me nack threads rows wide inside here s k view m same,
-                coherent_nack k.world k.owner id me.0 nack o (sees shape id place me nack threads rows wide inside here s k view) (world_kept stands shape s k),
+                coherent_nack k.world k.owner id me.0 nack o (sees shape id place me nack threads rows wide inside here s k view) (world_kept stands shape s k) (open_words stands shape s k wide),
               ),
         )
 
     -- a nack of a held row's thread: where it is not bound, it is bound to the row
-    pub bind_allowed : (b : Binding) → IsBindingInRange b → me.0.stage ≡ Resting → Has me.0.seen.held (bound_row nack b) → ¬ Has me.0.seen.opened (bound_row nack b) → (¬ SawEnded me.0.seen nack.thread) → place ≡ short_nack_place shape.offers shape.rows nack
+    pub bind_allowed : (b : Binding) → IsBindingInRange b → me.0.stage ≡ Resting → Has me.0.seen.held (bound_row nack b) → ¬ Has me.0.seen.opened (bound_row nack b) → (¬ SawEnded me.0.seen nack.thread) → place ≡ short_nack_place shape.layout nack
         → Allows (Keeps stands shape) slots id me place (λ x. either (eqb x (nack_word Unbound)) (nack_word (Bound b)) x) (tried_bind stands (step slots place (nack_word Unbound) (nack_word (Bound b)) none) me)
     bind_allowed b in_range resting held unopened alive here s k homes view range =
         let x = slice_index s.words place in
@@ -387,6 +388,6 @@ module _ {M : Type 0} (stands : Stands M) where
                   (λ z. (saw_nack (nack_same z) says me.0, me.1)),
                   subst (λ (z : NackName × Binding). FoundNack stands me.0 z.0 z.1 says) (λ i. (nack_same i, tried i)) found,
                 ),
-            coherent_nack k.world k.owner id me.0 nack says seen (world_kept stands shape s k),
+            coherent_nack k.world k.owner id me.0 nack says seen (world_kept stands shape s k) (open_words stands shape s k wide),
           ),
         ))

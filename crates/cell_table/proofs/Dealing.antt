@@ -1,5 +1,5 @@
 -- The rule holds at the start, and while the first pass deals the rows.
-use Rattle.std.proofs.Common.{slice_set, ◌≡◌, ◌≢◌, ℕ, zero, suc, ◌+◌, ◌*◌, ◌%◌, ◌<◌, ◌≤◌, Bool, true, false, cond, eqb, ◌&&◌, List, [], ◌∷◌, ◌++◌, map, length, replicate, Option, sym, refl, ap, ◌∙◌, subst, ◌⊎◌, inl, inr, ⊎_elim, arith, Some, None, slice_get, unwrap_or}
+use Rattle.std.proofs.Common.{slice_set, ◌≡◌, ◌≢◌, ℕ, zero, suc, ◌+◌, ◌%◌, ◌<◌, ◌≤◌, Bool, true, false, cond, eqb, ◌&&◌, List, [], ◌∷◌, ◌++◌, map, length, replicate, Option, sym, refl, ap, ◌∙◌, subst, ◌⊎◌, inl, inr, ⊎_elim, arith, Some, None, slice_get, unwrap_or}
 use Rattle.std.proofs.lemmas.Bool.{true≢false, cases_Bool, lt-ltb, ltb-true, eq-eqb, eqb-true, ne_eqb, and_parts, and_from}
 use Rattle.std.proofs.Math.Bool.{and-false}
 use Rattle.std.proofs.Math.Dec.{ltb}
@@ -18,7 +18,8 @@ use Rattle.protocol_values.specs.declared.Cell.TheVariants.{Fresh, Claimed}
 use Rattle.protocol_ledger.specs.declared.opening.Life.{Life}
 use Rattle.protocol_ledger.specs.declared.opening.Life.TheVariants as life
 use Rattle.protocol_values.specs.Words.{count_of}
-use Rattle.protocol.specs.Short.{short_len}
+use Rattle.protocol_ledger.specs.declared.layout.Layout.{Layout}
+use Rattle.protocol.specs.Short.{Fits, words_below}
 use Rattle.protocol.specs.Openings.{AreFirstWords, Begins, HadEnded, HadStarted, IsOpening, Opening, course_for, greatest, held_first, is_running, thread_in}
 use Rattle.protocol.specs.Tables.{all_rows, course_at, cell_at, word_at, binding_at, bound_row, carried_at, is_fresh, is_row}
 use Rattle.protocol.specs.Worlds.{World, holder_at, first_row}
@@ -33,7 +34,7 @@ use Rattle.protocol_ledger.proofs.Acting.{ends-begin, starts-begin}
 use Rattle.cell_table.specs.declared.view.View.{View}
 use Rattle.cell_table.specs.declared.view.Shape.{Shape}
 use Rattle.cell_table.specs.declared.view.Stage.TheVariants.{Aside, Resting}
-use Rattle.cell_table.specs.Sight.{Coherent, Has, WasSettled}
+use Rattle.cell_table.specs.Sight.{OpenHaveWords, Coherent, Has, WasSettled}
 use Rattle.protocol.specs.Acting.{EndsAt, acts_in}
 use Rattle.cell_table.specs.Closings.{words_of}
 use Rattle.cell_table.specs.Views.{Knows, RunsIn, behind_last, opening_in}
@@ -115,7 +116,7 @@ none_told most = omega arith
 module _ {M : Type 0} (stands : Stands M) where
   -- THE START
   module _ (shape : Shape M) (ws : List ℕ) (xs : List (Option M)) (slots : xs ≡ shape.first.value.items) (machines : AreMachines (opening_in shape) shape.first.value.items)
-      (size : shape.threads ≡ length (opening_in shape).threads) (opens : IsOpening (opening_in shape) shape.rows) (one_row : 1 ≤ shape.rows) (few_rows : shape.rows ≤ 1024) (one_pass : 1 ≤ shape.passes) (few_offers : shape.offers ≤ 8) (sized : length ws ≡ shape.threads * short_len shape.offers shape.rows)
+      (size : shape.threads ≡ length (opening_in shape).threads) (opens : IsOpening (opening_in shape) shape.rows) (one_row : 1 ≤ shape.rows) (few_rows : shape.rows ≤ 1024) (one_pass : 1 ≤ shape.passes) (fits : Fits shape.layout shape.rows) (sized : length ws ≡ words_below shape.layout shape.threads)
       (words : AreFirstWords (opening_in shape) (words_of shape ws)) where
     abbrev o : Opening
     o = opening_in shape
@@ -143,7 +144,7 @@ module _ {M : Type 0} (stands : Stands M) where
     its_course : (t g : ℕ) → t < shape.threads → RunsIn o t → EndsAt (course_at begun.table t) g → ⊥
     its_course t g h runs e = running_unended (thread_in o t).0 (thread_in o t).1 g runs (subst (λ (c : Course). EndsAt c g) (first_course o begun.table words low t h) e)
 
-    first_there : (id : ℕ) (v : View M) → get_elem? (dealer shape 0 ∷ []) id ≡ some v → beginning v ≡ (shape.first.value.items, o, shape.offers)
+    first_there : (id : ℕ) (v : View M) → get_elem? (dealer shape 0 ∷ []) id ≡ some v → beginning v ≡ (shape.first.value.items, o, shape.layout)
     first_there zero v e = ap (λ (u : View M). beginning u) (sym (mathlib.Core.Option.some-injective _ _ e))
     first_there (suc id) v e = absurd (mathlib.Core.Option.some-ne-none v (sym e))
 
@@ -211,9 +212,9 @@ module _ {M : Type 0} (stands : Stands M) where
     keeps_start = record {
       opens = opens;
       few_rows = few_rows;
-      few_offers = few_offers;
+      fits = fits;
       sized = sized;
-      counts = λ r row. subst (λ (n : ℕ). unwrap_or (count_of n) 0 ≤ shape.offers) (sym (words.blank r 1 row (omega arith))) (none_told shape.offers);
+      counts = λ r row. subst (λ (n : ℕ). unwrap_or (count_of n) 0 ≤ shape.layout.offers) (sym (words.blank r 1 row (omega arith))) (none_told shape.layout.offers);
       moves = [];
       interleaved = record { made = λ id v e. one_view id v e; no_others = λ id h. refl };
       start = begun;
@@ -278,6 +279,10 @@ no_offers_of : (rows : List Row) (r : Row) (p x : ℕ) → Has (no_offers rows) 
 no_offers_of [] r p x h = absurd h
 no_offers_of (q ∷ rows) r p x (inl e) = (inl (ap (λ (z : Row × ℕ × ℕ). z.0) e), ap (λ (z : Row × ℕ × ℕ). z.1) (sym e), ap (λ (z : Row × ℕ × ℕ). z.2) (sym e))
 no_offers_of (q ∷ rows) r p x (inr h) = let n = no_offers_of rows r p x h in (inr n.0, n.1, n.2)
+
+pub nothing_open : (y : Layout) (held : List Row) → OpenHaveWords y (seen_nothing held)
+unfolding OpenHaveWords
+nothing_open y held r h = ⊎_elim (λ (opened : ⊥). absurd opened) (λ (read : (p : ℕ) × (x : ℕ) × ⊥). absurd read.2) h
 
 -- and it agrees with itself
 pub nothing_agrees : (threads rows : ℕ) (held : List Row) → Coherent threads rows (seen_nothing held)
@@ -457,7 +462,7 @@ module _ {M : Type 0} (stands : Stands M) where
     deals = record {
       opens = h.opens;
       few_rows = h.few_rows;
-      few_offers = h.few_offers;
+      fits = h.fits;
       sized = h.sized;
       counts = h.counts;
       moves = h.moves;
@@ -473,7 +478,7 @@ module _ {M : Type 0} (stands : Stands M) where
       seated = new_seat;
       gathers = gathers_more (slice_set s.views id (dealer shape (k + 1))) (dealt_pass (dealer shape k)) refl (gathers_set s.views id (dealer shape k) (dealer shape (k + 1)) view refl (λ e. (refl, e, refl, refl)) h.gathers);
       firsts = λ j u e t. ⊎_elim
-          (λ old. firsts_with s.views id (dealer shape k) (dealer shape (k + 1)) (shape.first.value.items, opening_in shape, shape.offers) view refl some_threads h.firsts j u old t)
+          (λ old. firsts_with s.views id (dealer shape k) (dealer shape (k + 1)) (shape.first.value.items, opening_in shape, shape.layout) view refl some_threads h.firsts j u old t)
           (λ now. ap (λ (z : View M). beginning z) (sym now.1))
           (at_end (slice_set s.views id (dealer shape (k + 1))) (dealt_pass (dealer shape k)) u j e);
       started = h.started;
@@ -496,9 +501,9 @@ module _ {M : Type 0} (stands : Stands M) where
   deal_allowed shape id k below some_threads s h view = deals shape id k below some_threads s h view
 
 -- a table has some words
-pub some_words : (offers threads rows : ℕ) → 1 ≤ threads → 0 < threads * short_len offers rows
-some_words offers zero rows h = absurd (omega arith)
-some_words offers (suc threads) rows h = omega (arith, Rattle.std.proofs.Math.Nat.suc-mul threads (short_len offers rows))
+pub some_words : (y : Layout) (threads : ℕ) → 1 ≤ threads → 0 < words_below y threads
+some_words y zero h = absurd (omega arith)
+some_words y (suc t) h = omega arith
 
 -- one more in a list that is read by number
 pub each_more : {A : Type 0} (P : ℕ → A → Type 0) (xs ys : List A) (x : A) (n : ℕ) → length xs ≡ n → ys ≡ xs ++ x ∷ [] → P n x → ((k : ℕ) (y : A) → slice_get xs k ≡ Some y → P k y) → (k : ℕ) (y : A) → slice_get ys k ≡ Some y → P k y

@@ -1,5 +1,5 @@
 -- The words of a table at its end, and what their ledger says.
-use Rattle.std.proofs.Common.{Option, Bool, true, false, inl, inr, ◌≡◌, ◌≢◌, ℕ, zero, suc, ◌+◌, ◌<◌, ◌≤◌, List, [], ◌∷◌, length, slice_index, slice_set, slice_get, get_or, sym, refl, ap, ◌∙◌, subst, ⊎_elim, arith, Some, None, ◌*◌}
+use Rattle.std.proofs.Common.{Option, Bool, true, false, inl, inr, ◌≡◌, ◌≢◌, ℕ, zero, suc, ◌+◌, ◌<◌, ◌≤◌, List, [], ◌∷◌, length, slice_index, slice_set, slice_get, get_or, sym, refl, ap, ◌∙◌, subst, ⊎_elim, arith, Some, None}
 use Rattle.std.proofs.lemmas.List.{ext_get_or, get_or-set_same, get_or-set_other}
 use Rattle.std.proofs.lemmas.Bool.{cases_Bool}
 use mathlib.Core.Option.{some, none}
@@ -17,7 +17,7 @@ use Rattle.protocol.specs.Kept.{Kept, Linked}
 use Rattle.protocol_ledger.specs.declared.opening.Life.{Life}
 use Rattle.protocol_ledger.specs.declared.opening.Life.TheVariants as life
 use Rattle.protocol.specs.Openings.{HadEnded, HadStarted, Opening, course_for, greatest, state_in, thread_in, word_for}
-use Rattle.protocol.specs.Short.{short_len, short_place, wide_table}
+use Rattle.protocol.specs.Short.{Fits, HasWords, short_place, wide_table, words_below}
 use Rattle.protocol_ledger.proofs.Short.{short_word}
 use Rattle.protocol.specs.Tables.{Table, carried_by, cell_at, course_at, is_fresh, is_taken, joined_at, marks_at, offer_at, word_at}
 use Rattle.protocol_ledger.proofs.Closing.{none_later}
@@ -236,13 +236,14 @@ module _ {M : Type 0} (stands : Stands M) where
     )
 
 -- the ledger of these words, where the greatest stamp before the table is told
-pub sized_ledger : {M : Type 0} (shape : Shape M) (ws : List ℕ) (stamps : ℕ) (l : Ledger) → stamps ≡ greatest (opening_in shape) → l ≡ ledger_of (wide_table shape.offers (record { threads = shape.threads; rows = shape.rows; words = ws; opening = stamps })) → l ≡ ledger_of (sized shape ws)
-sized_ledger shape ws stamps l is told = told ∙ ap (λ (n : ℕ). ledger_of (wide_table shape.offers (record { threads = shape.threads; rows = shape.rows; words = ws; opening = n }))) is
+pub sized_ledger : {M : Type 0} (shape : Shape M) (ws : List ℕ) (stamps : ℕ) (l : Ledger) → stamps ≡ greatest (opening_in shape) → l ≡ ledger_of (wide_table shape.layout (record { threads = shape.threads; rows = shape.rows; words = ws; opening = stamps })) → l ≡ ledger_of (sized shape ws)
+sized_ledger shape ws stamps l is told = told ∙ ap (λ (n : ℕ). ledger_of (wide_table shape.layout (record { threads = shape.threads; rows = shape.rows; words = ws; opening = n }))) is
 
 -- A CELL, by the words alone
-pub cell_from : {M : Type 0} (shape : Shape M) (ws : List ℕ) (r : Row) → shape.offers ≤ 8 → length ws ≡ shape.threads * short_len shape.offers shape.rows → r.thread < shape.threads → r.sync < shape.rows
-    → cell_at (sized shape ws) r ≡ unwrap_or (cell_of (slice_index ws (short_place shape.offers shape.rows r 0))) Fresh
+pub cell_from : {M : Type 0} (shape : Shape M) (ws : List ℕ) (r : Row) → Fits shape.layout shape.rows → length ws ≡ words_below shape.layout shape.threads → r.thread < shape.threads → HasWords shape.layout r
+    → cell_at (sized shape ws) r ≡ unwrap_or (cell_of (slice_index ws (short_place shape.layout r 0))) Fresh
 unfolding cell_at word_at
-cell_from shape ws r few size a b =
-    ap (λ (c : Bool). if c then unwrap_or (cell_of (word_at (sized shape ws) r 0)) Fresh else Fresh) (row_from (sized shape ws) r a b)
-    ∙ ap (λ (n : ℕ). unwrap_or (cell_of n) Fresh) (short_word shape.offers shape.rows few shape.threads ws size r 0 a b (omega arith))
+cell_from shape ws r fits size a b =
+    let few = fits.1 r.thread in
+    ap (λ (c : Bool). if c then unwrap_or (cell_of (word_at (sized shape ws) r 0)) Fresh else Fresh) (row_from (sized shape ws) r a (omega arith))
+    ∙ ap (λ (n : ℕ). unwrap_or (cell_of n) Fresh) (short_word shape.layout shape.rows fits shape.threads ws size r 0 a b (omega arith))

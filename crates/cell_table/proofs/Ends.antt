@@ -127,7 +127,7 @@ sync_of_end (Ended start sync) = sync
 
 module _ {M : Type 0} (stands : Stands M) where
   module _ (shape : Shape M) (slots id place : ℕ) (me : Me (Option M) (View M)) (x : Row)
-      (threads : me.0.threads ≡ shape.threads) (rows : me.0.rows ≡ shape.rows) (wide : me.0.offers ≡ shape.offers) (inside : x.thread < shape.threads) (here : place ≡ short_course_place shape.offers shape.rows x.thread)
+      (threads : me.0.threads ≡ shape.threads) (rows : me.0.rows ≡ shape.rows) (wide : me.0.layout ≡ shape.layout) (inside : x.thread < shape.threads) (here : place ≡ short_course_place shape.layout x.thread)
       (finishing : 0 < length shape.first.value.items → IsFinishing stands shape.first.value.items me.0.results x) (resting : me.0.stage ≡ Resting) (stand : IsStand me.0.rows me.0.seen x) (going : ¬ SawEnded me.0.seen x.thread)
       (start : ℕ) (begun : Has me.0.seen.started (x.thread, start)) (range : IsCourseInRange (Ended start x.sync)) where
     module _ (s : State (Option M) (View M)) (k : Keeps stands shape s) (view : get_elem? s.views id ≡ some me.0) where

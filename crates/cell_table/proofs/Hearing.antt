@@ -212,7 +212,7 @@ module _ {M : Type 0} (stands : Stands M) where
     knows_of j y (inl (inr a)) t = k.knows j y a.1 t
     knows_of j y (inr a) t = subst (λ (z : View M). Knows k.world k.owner j z) a (told_knows j)
 
-    firsts_of : (j : ℕ) (y : View M) → Was j y → 0 < y.threads → beginning y ≡ (shape.first.value.items, opening_in shape, shape.offers)
+    firsts_of : (j : ℕ) (y : View M) → Was j y → 0 < y.threads → beginning y ≡ (shape.first.value.items, opening_in shape, shape.layout)
     firsts_of j y (inl (inl a)) t = ap (λ (z : View M). beginning z) (sym a.1) ∙ first ∙ k.firsts id v view at_table
     firsts_of j y (inl (inr a)) t = k.firsts j y a.1 t
     firsts_of j y (inr a) t = ap (λ (z : View M). beginning z) (sym a) ∙ told_first ∙ k.firsts id v view at_table
@@ -226,7 +226,7 @@ module _ {M : Type 0} (stands : Stands M) where
     keeps_split = record {
       opens = k.opens;
       few_rows = k.few_rows;
-      few_offers = k.few_offers;
+      fits = k.fits;
       sized = k.sized;
       counts = k.counts;
       moves = k.moves;
@@ -290,7 +290,7 @@ module _ {M : Type 0} (stands : Stands M) where
   hear_allowed shape id v other w at_table told_at nothing aside s k view apart told = record {
     opens = k.opens;
     few_rows = k.few_rows;
-    few_offers = k.few_offers;
+    fits = k.fits;
     sized = k.sized;
     counts = k.counts;
     moves = k.moves;
@@ -310,7 +310,7 @@ module _ {M : Type 0} (stands : Stands M) where
     gathers = gathers_heard s.views id v other w view apart was_there aside k.gathers;
     firsts = λ j u e t. ⊎_elim
         (λ (a : (j ≡ other) × (spent_pass ≡ u)). let z : u.threads ≡ 0 = ap (λ (y : View M). y.threads) (sym a.1) in absurd (omega arith))
-        (λ (a : (j ≢ other) × (get_elem? (slice_set s.views id (heard_pass v w)) j ≡ some u)). firsts_with s.views id v (heard_pass v w) (shape.first.value.items, opening_in shape, shape.offers) view refl at_table k.firsts j u a.1 t)
+        (λ (a : (j ≢ other) × (get_elem? (slice_set s.views id (heard_pass v w)) j ≡ some u)). firsts_with s.views id v (heard_pass v w) (shape.first.value.items, opening_in shape, shape.layout) view refl at_table k.firsts j u a.1 t)
         (at_set (slice_set s.views id (heard_pass v w)) other j spent_pass u e);
     started = k.started;
     ended = k.ended;

@@ -1,5 +1,5 @@
 -- Rows that are taken in turn: those that were taken come first, and behind one that is not opened none is.
-use Rattle.std.proofs.Common.{◌≡◌, ◌∙◌, ◌<◌, ◌≤◌, ℕ, zero, suc, List, None, Some, true, false, ap, arith, refl, subst, sym, ⊎_elim}
+use Rattle.std.proofs.Common.{◌≡◌, ◌∙◌, ◌<◌, ◌≤◌, ℕ, zero, suc, List, None, Some, true, false, ap, arith, length, refl, subst, sym, ⊎_elim}
 use Rattle.std.specs.Prelude.{◌+◌}
 use Rattle.std.proofs.lemmas.Bool.{cases_Bool, false≢true}
 use Rattle.std.proofs.lemmas.Option.{none-some}
@@ -9,11 +9,14 @@ use Rattle.protocol_values.specs.declared.Cell.TheVariants.{Claimed, Fresh, Sync
 use Rattle.protocol_values.specs.declared.Offer.{Offer}
 use Rattle.protocol_values.specs.declared.Row.{Row}
 use Rattle.protocol.specs.Kept.{Linked}
-use Rattle.protocol.specs.Tables.{Table, cell_at, is_fresh, is_row, is_taken, marks_at, offer_at}
-use Rattle.protocol_ledger.proofs.Places.{row_inside}
-use Rattle.protocol_ledger.proofs.Readings.{cell_outside, count_fresh, offer_none}
+use Rattle.protocol.specs.Tables.{Table, cell_at, is_fresh, is_taken, marks_at, offer_at}
+use Rattle.protocol.specs.Openings.{greatest}
+use Rattle.protocol.specs.Short.{Fits, rows_of, words_below}
+use Rattle.protocol_ledger.proofs.Sheets.{missing_fresh}
+use Rattle.protocol_ledger.proofs.Readings.{count_fresh, offer_none}
 use Rattle.cell_table.specs.declared.view.Shape.{Shape}
 use Rattle.cell_table.specs.Closings.{AreInTurn, words_of}
+use Rattle.cell_table.specs.Views.{opening_in}
 
 pub taken_open : (c : Cell) → is_taken c ≡ true → is_fresh c ≡ false
 taken_open Fresh e = absurd (false≢true e)
@@ -55,12 +58,9 @@ module _ {M : Type 0} (shape : Shape M) (ws : List ℕ) (thread : ℕ) where
   abbrev cell : ℕ → Cell
   cell g = cell_at (words_of shape ws) (record { thread = thread; sync = g })
 
-  -- a table has no row behind its last ones
-  pub none_outside : (g : ℕ) → shape.rows ≤ g → is_fresh (cell g) ≡ true
-  none_outside g high = ⊎_elim
-      (λ (yes : is_row (words_of shape ws) (record { thread = thread; sync = g }) ≡ true). let inside = (row_inside (words_of shape ws) (record { thread = thread; sync = g }) yes).1 in absurd (omega (arith, inside, high)))
-      (λ (no : is_row (words_of shape ws) (record { thread = thread; sync = g }) ≡ false). ap is_fresh (cell_outside (words_of shape ws) (record { thread = thread; sync = g }) no))
-      (cases_Bool (is_row (words_of shape ws) (record { thread = thread; sync = g })))
+  -- a row that has no words is Fresh
+  pub none_past : Fits shape.layout shape.rows → length ws ≡ words_below shape.layout shape.threads → (g : ℕ) → rows_of shape.layout thread ≤ g → is_fresh (cell g) ≡ true
+  none_past fits sized g past = ap is_fresh (missing_fresh shape.layout shape.threads shape.rows ws (greatest (opening_in shape)) fits sized (record { thread = thread; sync = g }) (λ its. past))
 
   module _ (turns : AreInTurn shape ws) where
     -- a row was taken, so all up to it were

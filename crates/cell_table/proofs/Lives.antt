@@ -27,7 +27,7 @@ use Rattle.cell_table.proofs.Following.{some_last, some_seat, stand_ends}
 use Rattle.cell_table.proofs.Others.{learn_course}
 use Rattle.cell_table.proofs.Seating.{Stays}
 use Rattle.cell_table.proofs.Truths.{with_itself}
-use Rattle.cell_table.proofs.Turning.{keeps_view, world_kept}
+use Rattle.cell_table.proofs.Turning.{keeps_view, open_words, world_kept}
 
 module _ {M : Type 0} where
   pub saw_stays : (p : ℕ) (c : Course) (v : View M) → Stays v (saw_course p c v)
@@ -61,15 +61,15 @@ module _ {M : Type 0} where
 
 module _ {M : Type 0} (stands : Stands M) where
   module _ (shape : Shape M) (slots id place : ℕ) (me : Me (Option M) (View M)) (p : ℕ)
-      (threads : me.0.threads ≡ shape.threads) (rows : me.0.rows ≡ shape.rows) (wide : me.0.offers ≡ shape.offers) (inside : p < shape.threads) where
-    pub look_life_allowed : place ≡ short_course_place shape.offers shape.rows p → Allows (Keeps stands shape) slots id me place (λ n. n) (looked_life (step slots place 0 0 none) me)
+      (threads : me.0.threads ≡ shape.threads) (rows : me.0.rows ≡ shape.rows) (wide : me.0.layout ≡ shape.layout) (inside : p < shape.threads) where
+    pub look_life_allowed : place ≡ short_course_place shape.layout p → Allows (Keeps stands shape) slots id me place (λ n. n) (looked_life (step slots place 0 0 none) me)
     look_life_allowed here s k homes view range =
         let at_table : 0 < me.0.threads = omega (arith, threads, inside) in
         let known : Knows k.world k.owner id me.0 = k.knows id me.0 view at_table in
         let kept : Kept k.world = world_kept stands shape s k in
         let its : p < k.world.table.threads = subst (λ (n : ℕ). p < n) (sym (ap (λ (t : Table). t.threads) k.table)) inside in
         let word : slice_index k.world.table.words (course_place k.world.table.rows p) ≡ slice_index s.words place =
-        ap (λ (t : Table). slice_index t.words (course_place t.rows p)) k.table ∙ short_course shape.offers shape.rows k.few_offers shape.threads s.words k.sized p inside ∙ ap (slice_index s.words) (sym here) in
+        ap (λ (t : Table). slice_index t.words (course_place t.rows p)) k.table ∙ short_course shape.layout shape.rows k.fits shape.threads s.words k.sized p inside ∙ ap (slice_index s.words) (sym here) in
         let c = course_read (slice_index s.words place) in
         let is : course_at k.world.table p ≡ c = course_inside k.world.table p its ∙ ap course_read word in
         let sees : Knows k.world k.owner id (saw_course p c me.0) = learn_course k.world k.owner id me.0 p c known is in (
@@ -78,17 +78,17 @@ module _ {M : Type 0} (stands : Stands M) where
           tt,
           keeps_view stands shape s k id me.0 (saw_course p c me.0) _ view at_table refl refl refl refl (saw_stays p c me.0) (λ r h. saw_begins p c me.0 r h) (set-get_or s.words place 0) sees,
           λ q at.
-              let same : p ≡ q = same_short_course shape.offers shape.rows p q (sym here ∙ at.1 ∙ (λ i. short_course_place (wide i) (rows i) q)) in (
+              let same : p ≡ q = same_short_course shape.layout p q (sym here ∙ at.1 ∙ (λ i. short_course_place (wide i) q)) in (
                 ap (λ (n : ℕ). (saw_course n c me.0, me.1)) same,
                 subst (λ (z : ℕ × Course). AgreesLife me.0 z.0 z.1) (λ i. (same i, is i)) (agrees_life k.world k.owner id me.0 known kept p),
-                with_itself k.world k.owner id (saw_course p c me.0) sees kept,
+                with_itself k.world k.owner id (saw_course p c me.0) sees kept (open_words stands shape s k wide),
               ),
         )
 
   -- the word of a thread's life is written where it stands
-  pub wrote_life : (shape : Shape M) (s : State (Option M) (View M)) (k : Keeps stands shape s) (place t d : ℕ) → t < shape.threads → place ≡ short_course_place shape.offers shape.rows t
-      → ◌≡◌ {A = Table} (record { threads = shape.threads; rows = shape.rows; words = slice_set (widen shape.offers shape.rows shape.threads s.words) (course_place shape.rows t) d; opening = greatest (opening_in shape) })
-      (wide_table shape.offers (record { threads = shape.threads; rows = shape.rows; words = slice_set s.words place d; opening = greatest (opening_in shape) }))
+  pub wrote_life : (shape : Shape M) (s : State (Option M) (View M)) (k : Keeps stands shape s) (place t d : ℕ) → t < shape.threads → place ≡ short_course_place shape.layout t
+      → ◌≡◌ {A = Table} (record { threads = shape.threads; rows = shape.rows; words = slice_set (widen shape.layout shape.rows shape.threads s.words) (course_place shape.rows t) d; opening = greatest (opening_in shape) })
+      (wide_table shape.layout (record { threads = shape.threads; rows = shape.rows; words = slice_set s.words place d; opening = greatest (opening_in shape) }))
   wrote_life shape s k place t d inside here =
       ap (λ (ws : List ℕ). record { threads = shape.threads; rows = shape.rows; words = ws; opening = greatest (opening_in shape) })
-      (sym (set_course shape.offers shape.rows k.few_offers shape.threads s.words k.sized t d inside) ∙ ap (λ (n : ℕ). widen shape.offers shape.rows shape.threads (slice_set s.words n d)) (sym here))
+      (sym (set_course shape.layout shape.rows k.fits shape.threads s.words k.sized t d inside) ∙ ap (λ (n : ℕ). widen shape.layout shape.rows shape.threads (slice_set s.words n d)) (sym here))

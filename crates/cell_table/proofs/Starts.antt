@@ -47,7 +47,7 @@ use Rattle.cell_table.proofs.Lives.{agrees_life, saw_begins, saw_stays, wrote_li
 use Rattle.cell_table.proofs.Others.{learn_course}
 use Rattle.cell_table.proofs.Seating.{Stays}
 use Rattle.cell_table.proofs.Truths.{with_itself, last_known}
-use Rattle.cell_table.proofs.Turning.{does_now, keeps_housed, keeps_view, moved_coherent, world_kept}
+use Rattle.cell_table.proofs.Turning.{does_now, keeps_housed, keeps_view, moved_coherent, open_words, world_kept}
 
 -- THE WORLD AFTER A START
 module _ (w : World) (seat : Seat) (p stamp : ℕ) (k : Kept w) (below : p < w.table.threads) (range : IsCourseInRange (Running stamp)) (waiting : course_at w.table p ≡ Unstarted) where
@@ -187,12 +187,12 @@ one_course c d g h e = sym (course_back c g) ∙ ap course_read e ∙ course_bac
 
 module _ {M : Type 0} (stands : Stands M) where
   module _ (shape : Shape M) (slots id place : ℕ) (me : Me (Option M) (View M)) (p : ℕ)
-      (threads : me.0.threads ≡ shape.threads) (rows : me.0.rows ≡ shape.rows) (wide : me.0.offers ≡ shape.offers) (inside : p < shape.threads) (here : place ≡ short_course_place shape.offers shape.rows p) where
+      (threads : me.0.threads ≡ shape.threads) (rows : me.0.rows ≡ shape.rows) (wide : me.0.layout ≡ shape.layout) (inside : p < shape.threads) (here : place ≡ short_course_place shape.layout p) where
     pub at_table : 0 < me.0.threads
     at_table = omega (arith, threads, inside)
 
-    pub one_life : (q : ℕ) → (q < me.0.threads) × (place ≡ short_course_place me.0.offers me.0.rows q) → p ≡ q
-    one_life q at = same_short_course shape.offers shape.rows p q (sym here ∙ at.1 ∙ (λ i. short_course_place (wide i) (rows i) q))
+    pub one_life : (q : ℕ) → (q < me.0.threads) × (place ≡ short_course_place me.0.layout q) → p ≡ q
+    one_life q at = same_short_course shape.layout p q (sym here ∙ at.1 ∙ (λ i. short_course_place (wide i) q))
 
     module _ (s : State (Option M) (View M)) (k : Keeps stands shape s) (view : get_elem? s.views id ≡ some me.0) where
       pub known : Knows k.world k.owner id me.0
@@ -205,7 +205,7 @@ module _ {M : Type 0} (stands : Stands M) where
       its = subst (λ (n : ℕ). p < n) (sym (ap (λ (t : Table). t.threads) k.table)) inside
 
       word_is : slice_index k.world.table.words (course_place k.world.table.rows p) ≡ slice_index s.words place
-      word_is = ap (λ (t : Table). slice_index t.words (course_place t.rows p)) k.table ∙ short_course shape.offers shape.rows k.few_offers shape.threads s.words k.sized p inside ∙ ap (slice_index s.words) (sym here)
+      word_is = ap (λ (t : Table). slice_index t.words (course_place t.rows p)) k.table ∙ short_course shape.layout shape.rows k.fits shape.threads s.words k.sized p inside ∙ ap (slice_index s.words) (sym here)
 
       pub course_is : course_at k.world.table p ≡ course_read (slice_index s.words place)
       course_is = course_inside k.world.table p its ∙ ap course_read word_is
@@ -327,7 +327,7 @@ module _ {M : Type 0} (stands : Stands M) where
 
   -- THE TURN to a place
   module _ (shape : Shape M) (slots id place : ℕ) (me : Me (Option M) (View M)) (r : Row)
-      (threads : me.0.threads ≡ shape.threads) (rows : me.0.rows ≡ shape.rows) (wide : me.0.offers ≡ shape.offers) (inside : r.thread < shape.threads) (here : place ≡ short_course_place shape.offers shape.rows r.thread) (stand : IsStand me.0.rows me.0.seen r) where
+      (threads : me.0.threads ≡ shape.threads) (rows : me.0.rows ≡ shape.rows) (wide : me.0.layout ≡ shape.layout) (inside : r.thread < shape.threads) (here : place ≡ short_course_place shape.layout r.thread) (stand : IsStand me.0.rows me.0.seen r) where
     pub stand_allowed : Allows (Keeps stands shape) slots id me place (λ n. n) (turned_to (step slots place 0 0 none) me)
     stand_allowed s k homes view in_words =
         let c = course_read (slice_index s.words place) in
@@ -344,6 +344,6 @@ module _ {M : Type 0} (stands : Stands M) where
               let one : r ≡ q = one_place k.world r q kept_now same (stand_place k.world k.owner id me.0 knows r stand) (stand_place k.world k.owner id me.0 knows q also) in (
                 ap (λ (z : Row). (stood_at z (saw_course z.thread c me.0), me.1)) one,
                 subst (λ (z : ℕ × Course). AgreesLife me.0 z.0 z.1) (λ i. (same i, read i)) (agrees_life k.world k.owner id me.0 knows kept_now r.thread),
-                with_itself k.world k.owner id (saw_course r.thread c me.0) sees kept_now,
+                with_itself k.world k.owner id (saw_course r.thread c me.0) sees kept_now (open_words stands shape s k wide),
               ),
         )

@@ -15,6 +15,7 @@ use Rattle.protocol_values.specs.declared.Base.TheVariants.{Send, Recv, Always, 
 use Rattle.protocol_values.specs.declared.Cell.TheVariants.{Fresh}
 use Rattle.protocol_values.specs.declared.Course.{Course}
 use Rattle.protocol_values.specs.declared.Course.TheVariants.{Unstarted, Running, Ended}
+use Rattle.protocol.specs.Short.{HasWords}
 use Rattle.protocol.specs.Worlds.{World, joined_with, granted_by}
 use Rattle.protocol.specs.Kept.{IsFormed, Kept, IsSideOf}
 use Rattle.protocol_ledger.proofs.Readings.{count_open, row_of_open, offer_none, joined_ranged, nack_of_bound, binding_ranged, bound_uncarried, carried_is, says_outside}
@@ -24,7 +25,9 @@ use Rattle.protocol_ledger.proofs.Linking.{fresh_not_joined, some_inj, naming, p
 use Rattle.protocol_ledger.proofs.Lawfulness.{chosen_there}
 use Rattle.protocol_ledger.proofs.Keeping.{IsUnjoined, next_cause, next_last, taken_before, held_row, granted_is}
 use Rattle.cell_table.specs.declared.view.View.{View}
-use Rattle.cell_table.specs.Sight.{Has, HaveDirection, HaveOffer, HasSeenLast, CanJoin, IsDraft, SawChosen, SeesNoOffer, SeesOffer, Coherent, next_stamp}
+use Rattle.cell_table.specs.declared.view.Seen.{Seen}
+use Rattle.protocol_ledger.specs.declared.layout.Layout.{Layout}
+use Rattle.cell_table.specs.Sight.{OpenHaveWords, Has, HaveDirection, HaveOffer, HasSeenLast, CanJoin, IsDraft, SawChosen, SeesNoOffer, SeesOffer, Coherent, next_stamp}
 use Rattle.protocol.specs.Acting.{EndsAt}
 use Rattle.cell_table.specs.Nacks.{CanGrant, SawCause, SawEnabled}
 use Rattle.cell_table.specs.Views.{Knows, behind_last}
@@ -34,6 +37,15 @@ use Rattle.protocol_ledger.proofs.Acting.{start_is}
 use Rattle.cell_table.proofs.Following.{place_behind, place_last}
 use Rattle.cell_table.proofs.Directions.{GoesIn, offer_headed, offers_meet_as}
 use Rattle.cell_table.proofs.Offers.{atom_place, few, same_read}
+
+-- what was seen open, or read, has words
+pub opened_words : (y : Layout) (s : Seen) (r : Row) → OpenHaveWords y s → Has s.opened r → HasWords y r
+unfolding OpenHaveWords
+opened_words y s r words h = words r (inl h)
+
+pub read_words : (y : Layout) (s : Seen) (r : Row) (p x : ℕ) → OpenHaveWords y s → Has s.words (r, p, x) → HasWords y r
+unfolding OpenHaveWords
+read_words y s r p x words h = words r (inr (p, x, h))
 
 -- WORDS OF AN OPEN ROW
 
@@ -256,8 +268,13 @@ module _ {M : Type 0} where
           (omega (arith, i.0), i.1);
     }
 
-    pub with_itself : AgreesWithItself v
-    with_itself = (coherent, λ n stamp h. k.settled n stamp (k.carried n stamp h))
+    pub with_itself : ((r : Row) → is_fresh (cell_at w.table r) ≡ false → HasWords v.layout r) → AgreesWithItself v
+    unfolding OpenHaveWords
+    with_itself words = (
+      coherent,
+      λ n stamp h. k.settled n stamp (k.carried n stamp h),
+      λ r open_r. ⊎_elim (λ (h : Has v.seen.opened r). words r (k.opened r h)) (λ (h : (p : ℕ) × (x : ℕ) × Has v.seen.words (r, p, x)). words r (k.read r h.0 h.1 h.2).0) open_r,
+    )
 
     -- what a pass has seen of a row agrees with the row's cell
     pub agrees : (r : Row) (c : Cell) → cell_at w.table r ≡ c → Agrees v r c

@@ -1,6 +1,6 @@
 -- The rule of the table is kept by a call that learns, and by a step of the protocol.
-use Rattle.std.proofs.Common.{slice_set, Option, ◌⊎◌, ◌≡◌, ◌≢◌, ◌<◌, ◌≤◌, ℕ, zero, suc, Bool, cond, List, [], ◌∷◌, length, sym, refl, ap, ◌∙◌, subst, inl, inr, ⊎_elim, arith}
-use Rattle.std.proofs.lemmas.Bool.{eq-eqb, ne_eqb}
+use Rattle.std.proofs.Common.{slice_set, Option, ◌⊎◌, ◌≡◌, ◌≢◌, ◌<◌, ◌≤◌, ℕ, zero, suc, Bool, cond, List, [], ◌∷◌, length, sym, refl, ap, ◌∙◌, subst, inl, inr, ⊎_elim, arith, false}
+use Rattle.std.proofs.lemmas.Bool.{cases_lt, eq-eqb, ne_eqb}
 use Rattle.std.proofs.lemmas.List.{length-set}
 use Rattle.std.proofs.lemmas.Option.{none-some}
 use mathlib.Core.Option.{Option as Maybe, some}
@@ -14,7 +14,7 @@ use Rattle.protocol.specs.Acting.{DoesAt, EndedAs, StartedAs, acts_in}
 use Rattle.protocol.specs.Growing.{GrowsTo}
 use Rattle.protocol.specs.Ledgers.{Ledger, ledger_of}
 use Rattle.protocol.specs.Standing.{AreResults, Result, Stands}
-use Rattle.protocol.specs.Tables.{Table}
+use Rattle.protocol.specs.Tables.{Table, cell_at, is_fresh}
 use Rattle.protocol.specs.Openings.{HadEnded, HadStarted, Opening, greatest}
 use Rattle.protocol.specs.Worlds.{World, Allowed, after_step}
 use Rattle.protocol_ledger.proofs.Acting.{ends-step, starts-step}
@@ -32,7 +32,10 @@ use Rattle.protocol_ledger.proofs.Keeping.{kept_schedule}
 use Rattle.protocol_ledger.proofs.LedgerLemmas.{kept_opening}
 use Rattle.cell_table.specs.Rule.{Housed, Interleaves, IsActing, IsToBegin, Keeps, Move, at_seat, beginning, in_order, steps_by}
 use Rattle.cell_table.proofs.Courses.{KeepsLives, plain_lives}
-use Rattle.protocol.specs.Short.{wide_table}
+use Rattle.protocol_ledger.specs.declared.layout.Layout.{Layout}
+use Rattle.protocol_ledger.proofs.Sheets.{missing_fresh, open_has_words}
+use Rattle.protocol_values.specs.declared.Cell.TheVariants.{Fresh}
+use Rattle.protocol.specs.Short.{HasWords, rows_of, wide_table}
 use Rattle.cell_table.proofs.Counts.{DraftsFew, few_step}
 use Rattle.cell_table.proofs.Housing.{LeavesHomes, housed_step, housed_view}
 use Rattle.cell_table.proofs.Leaving.{gathers_set}
@@ -96,7 +99,7 @@ module _ {M : Type 0} where
   }
 
   -- what all views have at first, one of them being new
-  pub firsts_with : (vs : List (View M)) (id : ℕ) (v w : View M) (first : List (Option M) × Opening × ℕ) → get_elem? vs id ≡ some v → beginning w ≡ beginning v → 0 < v.threads
+  pub firsts_with : (vs : List (View M)) (id : ℕ) (v w : View M) (first : List (Option M) × Opening × Layout) → get_elem? vs id ≡ some v → beginning w ≡ beginning v → 0 < v.threads
       → ((j : ℕ) (u : View M) → get_elem? vs j ≡ some u → 0 < u.threads → beginning u ≡ first)
       → (j : ℕ) (u : View M) → get_elem? (slice_set vs id w) j ≡ some u → 0 < u.threads → beginning u ≡ first
   firsts_with vs id v w first view same at_table all j u e t = ⊎_elim
@@ -126,7 +129,7 @@ module _ {M : Type 0} (stands : Stands M) where
   keeps_seen shape s k id v w ws hs view at_table seat made seen first stays same knows house = record {
     opens = k.opens;
     few_rows = k.few_rows;
-    few_offers = k.few_offers;
+    fits = k.fits;
     sized = ap (λ (z : List ℕ). length z) same ∙ k.sized;
     counts = k.counts;
     moves = k.moves;
@@ -135,12 +138,12 @@ module _ {M : Type 0} (stands : Stands M) where
     begins = k.begins;
     world = k.world;
     played = k.played;
-    table = k.table ∙ ap (λ (z : List ℕ). wide_table shape.offers (record { threads = shape.threads; rows = shape.rows; words = z; opening = greatest (opening_in shape) })) (sym same);
+    table = k.table ∙ ap (λ (z : List ℕ). wide_table shape.layout (record { threads = shape.threads; rows = shape.rows; words = z; opening = greatest (opening_in shape) })) (sym same);
     owner = k.owner;
     knows = views_with s.views id w k.world k.owner (λ j u n e t. k.knows j u e t) knows;
     seated = seated_seen s.views id v w view stays seat made k.seated;
     gathers = gathers_set s.views id v w view (ap (λ (z : ℕ × List (ℕ × List Step)). z.1) stays.1) (λ e. (stays.0, stays.3 ∙ e, seat, made)) k.gathers;
-    firsts = firsts_with s.views id v w (shape.first.value.items, opening_in shape, shape.offers) view first at_table k.firsts;
+    firsts = firsts_with s.views id v w (shape.first.value.items, opening_in shape, shape.layout) view first at_table k.firsts;
     started = k.started;
     ended = k.ended;
     housed = house;
@@ -156,9 +159,9 @@ module _ {M : Type 0} (stands : Stands M) where
 
   -- the protocol's step is made by the pass at its seat, and it knows more; what the slots hold then is given
   pub keeps_housed : (shape : Shape M) (s : State (Option M) (View M)) (k : Keeps stands shape s) (id : ℕ) (v w : View M) (ws : List ℕ) (hs : List (Maybe (Option M))) (owner : Row → ℕ) → get_elem? s.views id ≡ some v → 0 < v.threads → w.seat ≡ v.seat → w.made ≡ v.made → beginning w ≡ beginning v
-      → (step : Step) → (0 < length shape.first.value.items → StartedAs (acts_in stands shape.first.value.items).starts (after_step k.world (record { 0 = v.seat }) step).table step × EndedAs (acts_in stands shape.first.value.items).ends (after_step k.world (record { 0 = v.seat }) step).table step) → DraftsFew shape.offers step → Allowed k.world (record { 0 = v.seat }) step → MovesOn v w step
+      → (step : Step) → (0 < length shape.first.value.items → StartedAs (acts_in stands shape.first.value.items).starts (after_step k.world (record { 0 = v.seat }) step).table step × EndedAs (acts_in stands shape.first.value.items).ends (after_step k.world (record { 0 = v.seat }) step).table step) → DraftsFew shape.layout.offers step → Allowed k.world (record { 0 = v.seat }) step → MovesOn v w step
       → ((t : ℕ) (rs : List Result) → Has w.results (t, rs) → Has v.results (t, rs) ⊎ AreResults (ledger_of (after_step k.world (record { 0 = v.seat }) step).table) t rs)
-      → (after_step k.world (record { 0 = v.seat }) step).table ≡ wide_table shape.offers (record { threads = shape.threads; rows = shape.rows; words = ws; opening = greatest (opening_in shape) })
+      → (after_step k.world (record { 0 = v.seat }) step).table ≡ wide_table shape.layout (record { threads = shape.threads; rows = shape.rows; words = ws; opening = greatest (opening_in shape) })
       → length ws ≡ length s.words
       → ((j : ℕ) (u : View M) → j ≢ id → get_elem? s.views j ≡ some u → 0 < u.threads → Knows (after_step k.world (record { 0 = v.seat }) step) owner j u)
       → Knows (after_step k.world (record { 0 = v.seat }) step) owner id w
@@ -173,9 +176,9 @@ module _ {M : Type 0} (stands : Stands M) where
       record {
         opens = k.opens;
         few_rows = k.few_rows;
-        few_offers = k.few_offers;
+        fits = k.fits;
         sized = size ∙ k.sized;
-        counts = few_step shape.offers k.world at step kept allowed few k.counts;
+        counts = few_step shape.layout.offers k.world at step kept allowed few k.counts;
         moves = record { pass = id; seat = at; step = step } ∷ k.moves;
         interleaved = one_more k.moves s.views id v w step view k.interleaved seat made;
         start = k.start;
@@ -187,7 +190,7 @@ module _ {M : Type 0} (stands : Stands M) where
         knows = views_with s.views id (did step w) (after_step k.world at step) owner others knows;
         seated = seated_step s.views id v w step view at_table seat made on k.seated;
         gathers = gathers_set s.views id v (did step w) view (let same = on.same in ap (λ (z : ℕ × List (ℕ × List Step)). z.1) same.1) (λ e. absurd (on.goes e)) k.gathers;
-        firsts = firsts_with s.views id v (did step w) (shape.first.value.items, opening_in shape, shape.offers) view first at_table k.firsts;
+        firsts = firsts_with s.views id v (did step w) (shape.first.value.items, opening_in shape, shape.layout) view first at_table k.firsts;
         started = λ some_first. starts-step k.world at step kept allowed (HadStarted (opening_in shape)) (acts_in stands shape.first.value.items).starts (k.started some_first) (lives some_first).0;
         ended = λ some_first. ends-step k.world at step kept allowed (HadEnded (opening_in shape)) (acts_in stands shape.first.value.items).ends (k.ended some_first) (lives some_first).1;
         housed = house;
@@ -198,9 +201,9 @@ module _ {M : Type 0} (stands : Stands M) where
   -- where the step opens no row and takes none, and leaves the slots as they are
   pub keeps_step : (shape : Shape M) (s : State (Option M) (View M)) (k : Keeps stands shape s) (id : ℕ) (v w : View M) (ws : List ℕ) (owner : Row → ℕ) → get_elem? s.views id ≡ some v → 0 < v.threads → w.seat ≡ v.seat → w.made ≡ v.made → beginning w ≡ beginning v
       → ((r : Row) → IsToBegin w r → IsToBegin v r)
-      → (step : Step) → LeavesHomes step → KeepsLives step → DraftsFew shape.offers step → Allowed k.world (record { 0 = v.seat }) step → MovesOn v w step
+      → (step : Step) → LeavesHomes step → KeepsLives step → DraftsFew shape.layout.offers step → Allowed k.world (record { 0 = v.seat }) step → MovesOn v w step
       → ((t : ℕ) (rs : List Result) → Has w.results (t, rs) → Has v.results (t, rs) ⊎ AreResults (ledger_of (after_step k.world (record { 0 = v.seat }) step).table) t rs)
-      → (after_step k.world (record { 0 = v.seat }) step).table ≡ wide_table shape.offers (record { threads = shape.threads; rows = shape.rows; words = ws; opening = greatest (opening_in shape) })
+      → (after_step k.world (record { 0 = v.seat }) step).table ≡ wide_table shape.layout (record { threads = shape.threads; rows = shape.rows; words = ws; opening = greatest (opening_in shape) })
       → length ws ≡ length s.words
       → ((j : ℕ) (u : View M) → j ≢ id → get_elem? s.views j ≡ some u → 0 < u.threads → Knows (after_step k.world (record { 0 = v.seat }) step) owner j u)
       → Knows (after_step k.world (record { 0 = v.seat }) step) owner id w
@@ -209,9 +212,20 @@ module _ {M : Type 0} (stands : Stands M) where
       keeps_housed shape s k id v w ws s.homes owner view at_table seat made first step (λ some_first. plain_lives (acts_in stands shape.first.value.items).starts (acts_in stands shape.first.value.items).ends (after_step k.world (record { 0 = v.seat }) step).table step lives) few allowed on seen same size others knows
       (λ some_first. housed_step stands shape.first.value.items k.world (record { 0 = v.seat }) step s.homes s.views id (did step w) (world_kept shape s k) allowed leaves (λ q b. (k.housed some_first).waiting id v q view at_table (begins q b)) (k.housed some_first))
 
+  -- an opened row has words
+  pub open_words : (shape : Shape M) (s : State (Option M) (View M)) (k : Keeps stands shape s) → {y : Layout} → y ≡ shape.layout → (r : Row) → is_fresh (cell_at k.world.table r) ≡ false → HasWords y r
+  open_words shape s k same r open_r = subst (λ (y : Layout). HasWords y r) (sym same) (open_has_words shape.layout shape.threads shape.rows s.words (greatest (opening_in shape)) k.fits k.sized r (ap (λ (t : Table). is_fresh (cell_at t r)) (sym k.table) ∙ open_r))
+
+  -- and a row that has no words is Fresh
+  pub missing_words : (shape : Shape M) (s : State (Option M) (View M)) (k : Keeps stands shape s) → {y : Layout} → y ≡ shape.layout → (r : Row) → (¬ HasWords y r) → cell_at k.world.table r ≡ Fresh
+  missing_words shape s k same r none =
+      ap (λ (t : Table). cell_at t r) k.table
+      ∙ missing_fresh shape.layout shape.threads shape.rows s.words (greatest (opening_in shape)) k.fits k.sized r
+      (λ its. ⊎_elim (λ (h : HasWords shape.layout r). absurd (none (subst (λ (y : Layout). HasWords y r) (sym same) h))) (λ (past : rows_of shape.layout r.thread ≤ r.sync). past) (cases_lt r.sync (rows_of shape.layout r.thread)))
+
   -- WHAT A PASS HAS SEEN agrees with itself, at any moment
   pub pass_coherent : (shape : Shape M) (s : State (Option M) (View M)) (k : Keeps stands shape s) (id : ℕ) (v : View M) → get_elem? s.views id ≡ some v → 0 < v.threads → AgreesWithItself v
-  pass_coherent shape s k id v view at_table = with_itself k.world k.owner id v (k.knows id v view at_table) (world_kept shape s k)
+  pass_coherent shape s k id v view at_table = with_itself k.world k.owner id v (k.knows id v view at_table) (world_kept shape s k) (open_words shape s k (ap (λ (b : List (Option M) × Opening × Layout). b.2) (k.firsts id v view at_table)))
 
   -- and so does what the pass that moved has seen since
   pub moved_coherent : (shape : Shape M) (vs : List (View M)) (ws : List ℕ) (hs : List (Maybe (Option M))) (id : ℕ) (v w : View M) → get_elem? vs id ≡ some v → w.threads ≡ v.threads → 0 < v.threads

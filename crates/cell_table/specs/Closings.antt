@@ -19,7 +19,7 @@ use Rattle.cell_table.specs.Views.{opening_in}
 
 module _ {M : Type 0} where
   abbrev pub words_of : Shape M → List ℕ → Table
-  words_of shape ws = wide_table shape.offers (record { threads = shape.threads; rows = shape.rows; words = ws; opening = greatest (opening_in shape) })
+  words_of shape ws = wide_table shape.layout (record { threads = shape.threads; rows = shape.rows; words = ws; opening = greatest (opening_in shape) })
 
   -- by these words the row is opened, and nobody has taken it
   abbrev pub IsOpenAt : Shape M → List ℕ → ℕ → ℕ → Type 0

@@ -1,9 +1,10 @@
 -- The rule of the shared table.
-use Rattle.std.specs.Prelude.{◌≡◌, ◌≢◌, ◌⊎◌, ℕ, zero, suc, ◌+◌, ◌*◌, ◌%◌, ◌≤◌, ◌==◌, ◌<◌, ◌||◌, ◌&&◌, Bool, true, false, if◌then◌else◌, List, [], ◌∷◌, ◌++◌, length, Option, Some, slice_get, unwrap_or}
+use Rattle.std.specs.Prelude.{◌≡◌, ◌≢◌, ◌⊎◌, ℕ, zero, suc, ◌+◌, ◌%◌, ◌≤◌, ◌==◌, ◌<◌, ◌||◌, ◌&&◌, Bool, true, false, if◌then◌else◌, List, [], ◌∷◌, ◌++◌, length, Option, Some, slice_get, unwrap_or}
 use mathlib.Core.Option.{Option as Maybe, some}
 use lib.ListN.{get_elem?}
 use Rattle.atomic_table.specs.Table.{State}
 use Rattle.protocol_values.specs.declared.Row.{Row}
+use Rattle.protocol_ledger.specs.declared.layout.Layout.{Layout}
 use Rattle.protocol_values.specs.declared.Seat.{Seat}
 use Rattle.protocol_values.specs.declared.Course.TheVariants.{Unstarted}
 use Rattle.protocol_values.specs.declared.Step.{Step}
@@ -21,7 +22,7 @@ use Rattle.protocol.specs.Worlds.{World, first_row, Plays, nack_of_row}
 use Rattle.cell_table.specs.declared.view.Seen.{Seen}
 use Rattle.cell_table.specs.Sight.{Has, IsDraft}
 use Rattle.cell_table.specs.Views.{Knows, RunsIn, opening_by, opening_in}
-use Rattle.protocol.specs.Short.{short_len, wide_table}
+use Rattle.protocol.specs.Short.{Fits, wide_table, words_below}
 use Rattle.protocol.specs.Tables.{Table, cell_at, course_at, is_fresh, is_row, is_taken, row_eq, word_at}
 use Rattle.protocol_values.specs.Words.{count_of}
 
@@ -52,9 +53,9 @@ AreDistinct [] = Unit {0}
 AreDistinct (x ∷ xs) = ((steps : List Step) → Has xs (x.0, steps) → ⊥) × AreDistinct xs
 
 module _ {M : Type 0} where
-  -- what a pass knows of its table's start: what stood for the threads, from what the table goes on, and how many offers a row has room for
-  abbrev pub beginning : View M → List (Option M) × Opening × ℕ
-  beginning v = (v.first, opening_by v, v.offers)
+  -- what a pass knows of its table's start: what stood for the threads, from what the table goes on, and which rows have words
+  abbrev pub beginning : View M → List (Option M) × Opening × Layout
+  beginning v = (v.first, opening_by v, v.layout)
 
   -- The history is the steps that the passes made, interleaved: each pass made its own at its seat, and nobody else any.
   pub record Interleaves (moves : List Move) (views : List (View M)) : Type 0 where
@@ -90,7 +91,7 @@ module _ {M : Type 0} where
 
   -- the table for which the words stand at this moment
   abbrev pub table_of : {S : Type 0} → Shape M → State S (View M) → Table
-  table_of shape s = wide_table shape.offers (record { threads = shape.threads; rows = shape.rows; words = s.words; opening = greatest (opening_in shape) })
+  table_of shape s = wide_table shape.layout (record { threads = shape.threads; rows = shape.rows; words = s.words; opening = greatest (opening_in shape) })
 
 -- WHAT STANDS FOR THE THREADS, in a table of machines: it lies in the thread's slot, which is out with a pass from when that takes
 -- the thread's row to when it opens the next
@@ -168,8 +169,8 @@ module _ {M : Type 0} (stands : Stands M) where
   pub record Keeps (shape : Shape M) (s : State (Option M) (View M)) : Type 0 where
     pub opens : IsOpening (opening_in shape) shape.rows
     pub few_rows : shape.rows ≤ 1024
-    pub few_offers : shape.offers ≤ 8
-    pub sized : length s.words ≡ shape.threads * short_len shape.offers shape.rows
+    pub fits : Fits shape.layout shape.rows
+    pub sized : length s.words ≡ words_below shape.layout shape.threads
     pub moves : List Move
     pub interleaved : Interleaves moves s.views
     pub start : World
@@ -178,14 +179,14 @@ module _ {M : Type 0} (stands : Stands M) where
     pub played : Plays start (in_order moves) world
     pub table : world.table ≡ table_of shape s
     -- no row has a greater number of offers than rows have room for
-    pub counts : (r : Row) → is_row world.table r ≡ true → unwrap_or (count_of (word_at world.table r 1)) 0 ≤ shape.offers
+    pub counts : (r : Row) → is_row world.table r ≡ true → unwrap_or (count_of (word_at world.table r 1)) 0 ≤ shape.layout.offers
     pub owner : Row → ℕ
     -- a pass that is of no table any more knows nothing
     pub knows : (id : ℕ) (v : View M) → get_elem? s.views id ≡ some v → 0 < v.threads → Knows world owner id v
     pub seated : Seated s.views
     pub gathers : Gathers s.views
-    -- a pass knows what stood for the threads at first, from what the table goes on, and how many offers a row has room for
-    pub firsts : (id : ℕ) (v : View M) → get_elem? s.views id ≡ some v → 0 < v.threads → beginning v ≡ (shape.first.value.items, opening_in shape, shape.offers)
+    -- a pass knows what stood for the threads at first, from what the table goes on, and which rows have words
+    pub firsts : (id : ℕ) (v : View M) → get_elem? s.views id ≡ some v → 0 < v.threads → beginning v ≡ (shape.first.value.items, opening_in shape, shape.layout)
     -- in a table of machines a thread had started before, or has where what stood for another one had started it, and had ended, or
     -- has where what stood for it had; and what stands for the threads lies where it should
     pub started : 0 < length shape.first.value.items → EachStarted (HadStarted (opening_in shape)) (acts_in stands shape.first.value.items).starts (ledger_of world.table)
@@ -219,7 +220,7 @@ module _ {M : Type 0} where
 
   -- the first pass: it has dealt the seats below this one, and holds nothing itself
   abbrev pub dealer : Shape M → ℕ → View M
-  dealer shape k = record { threads = shape.threads; rows = shape.rows; offers = shape.offers; passes = shape.passes; lives = (opening_in shape).threads; nacks = (opening_in shape).nacks; first = shape.first.value.items; results = []; dealt = k; seat = 0; stage = Aside; from = first_row 0; seen = seen_nothing []; made = []; gathered = [] }
+  dealer shape k = record { threads = shape.threads; rows = shape.rows; layout = shape.layout; passes = shape.passes; lives = (opening_in shape).threads; nacks = (opening_in shape).nacks; first = shape.first.value.items; results = []; dealt = k; seat = 0; stage = Aside; from = first_row 0; seen = seen_nothing []; made = []; gathered = [] }
 
 -- the thread runs at first, and falls to seat k
 abbrev pub falls_to : Opening → ℕ → ℕ → ℕ → Bool
@@ -279,4 +280,4 @@ module _ {M : Type 0} where
 
   -- the pass that has told all that it had seen: it is of no table any more
   abbrev pub spent_pass : View M
-  spent_pass = record { threads = 0; rows = 0; offers = 0; passes = 0; lives = []; nacks = []; first = []; results = []; dealt = 0; seat = 0; stage = Resting; from = first_row 0; seen = seen_nothing []; made = []; gathered = [] }
+  spent_pass = record { threads = 0; rows = 0; layout = record { offers = 0; lens = [] }; passes = 0; lives = []; nacks = []; first = []; results = []; dealt = 0; seat = 0; stage = Resting; from = first_row 0; seen = seen_nothing []; made = []; gathered = [] }

@@ -18,7 +18,9 @@ use Rattle.protocol_values.specs.declared.Course.TheVariants.{Unstarted, Running
 use Rattle.protocol_values.specs.declared.Cell.{Cell}
 use Rattle.protocol_values.specs.declared.Cell.TheVariants.{Fresh, Waiting, Claimed, Synched, Taken}
 use Rattle.cell_table.specs.declared.view.Seen.{Seen}
+use Rattle.protocol_ledger.specs.declared.layout.Layout.{Layout}
 use Rattle.protocol.specs.Openings.{Opening, state_in, word_for}
+use Rattle.protocol.specs.Short.{HasWords}
 use Rattle.protocol.specs.Tables.{carried_by, row_eq, is_fresh, is_taken, names, offers_meet, stands_alone}
 use Rattle.protocol_values.specs.Values.{directions_meet, next_row, joined_of}
 use Rattle.protocol.specs.Acting.{EndsAt, HasStart}
@@ -344,6 +346,10 @@ pub record Coherent (threads rows : ℕ) (s : Seen) : Type 0 where
   pub bound : (n : NackName) (b : Binding) → Has s.bound (n, b) → (n.thread < threads) × (n.k < 64) × (b.sync < rows) × (b.scope < 4)
   -- and so is one that is carried
   pub carried : (n : NackName) (stamp : ℕ) → Has s.carried (n, stamp) → (n.thread < threads) × (n.k < 64)
+
+-- the rows that it saw open, or of which it read a word, have words
+unfoldable pub OpenHaveWords : Layout → Seen → Type 0
+OpenHaveWords y s = (r : Row) → Has s.opened r ⊎ ((p : ℕ) × (x : ℕ) × Has s.words (r, p, x)) → HasWords y r
 
 -- the nack was settled before the table: with the stamp at which it was enabled, or with 0
 abbrev pub WasSettled : Opening → NackName → ℕ → Type 0

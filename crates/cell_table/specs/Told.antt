@@ -16,23 +16,24 @@ use Rattle.protocol_values.specs.declared.Cell.TheVariants.{Fresh, Waiting, Clai
 use Rattle.protocol_values.specs.declared.Message.{Message}
 use Rattle.protocol_values.specs.declared.Offer.{Offer}
 use Rattle.protocol.specs.Standing.{IsLeft, Result, Stands}
-use Rattle.protocol.specs.Short.{row_len, short_course_place, short_nack_place, short_place}
+use Rattle.protocol_ledger.specs.declared.layout.Layout.{Layout}
+use Rattle.protocol.specs.Short.{HasWords, row_len, short_course_place, short_nack_place, short_place}
 use Rattle.protocol.specs.Tables.{bound_row, is_taken}
 use Rattle.protocol_values.specs.Values.{next_row}
 use Rattle.cell_table.specs.declared.view.View.{View}
 use Rattle.cell_table.specs.declared.view.Stage.TheVariants.{Resting, Claims, Joins}
 use Rattle.cell_table.specs.declared.view.Seen.{Seen}
-use Rattle.cell_table.specs.Sight.{Has, IsExpected, IsExpectedCourse, IsResult, IsStand, IsUnseen, SawEnded, AreSettled, Coherent, see_begun}
+use Rattle.cell_table.specs.Sight.{Has, IsExpected, IsExpectedCourse, IsResult, IsStand, IsUnseen, OpenHaveWords, SawEnded, AreSettled, Coherent, see_begun}
 use Rattle.cell_table.specs.Views.{IsClaimer, at_stage, bind_of, bound_nack, did, ended_thread, opening_by, saw, saw_course, saw_nack, started_thread, stood_at, took_with, read_word, turned, word_drafted}
 
--- the table has the row
-abbrev pub Inside : ℕ → ℕ → Row → Type 0
-Inside threads rows r = (r.thread < threads) × (r.sync < rows)
+-- the table has the row, and words for it
+abbrev pub Inside : ℕ → ℕ → Layout → Row → Type 0
+Inside threads rows y r = (r.thread < threads) × (r.sync < rows) × HasWords y r
 
 module _ {M : Type 0} where
   -- the step is on this word of this row
   abbrev pub At : {S : Type 0} → Step S → Me S (View M) → Row → ℕ → Type 0
-  At st m r p = Inside m.0.threads m.0.rows r × (st.word ≡ short_place m.0.offers m.0.rows r p)
+  At st m r p = Inside m.0.threads m.0.rows m.0.layout r × (st.word ≡ short_place m.0.layout r p)
 
 -- the table has the nack
 abbrev pub InsideNack : ℕ → NackName → Type 0
@@ -41,12 +42,12 @@ InsideNack threads n = (n.thread < threads) × (n.k < 64)
 module _ {M : Type 0} where
   -- the step is on the word of this nack
   abbrev pub AtNack : {S : Type 0} → Step S → Me S (View M) → NackName → Type 0
-  AtNack st m n = InsideNack m.0.threads n × (st.word ≡ short_nack_place m.0.offers m.0.rows n)
+  AtNack st m n = InsideNack m.0.threads n × (st.word ≡ short_nack_place m.0.layout n)
 
 module _ {M : Type 0} where
   -- the step is on the word of this thread's life
   abbrev pub AtLife : {S : Type 0} → Step S → Me S (View M) → ℕ → Type 0
-  AtLife st m p = (p < m.0.threads) × (st.word ≡ short_course_place m.0.offers m.0.rows p)
+  AtLife st m p = (p < m.0.threads) × (st.word ≡ short_course_place m.0.layout p)
 
 -- where a word says that a thread is on its course
 abbrev pub course_read : ℕ → Course
@@ -66,9 +67,9 @@ module _ {M : Type 0} where
   abbrev pub Agrees : View M → Row → Cell → Type 0
   Agrees v r c = IsExpected v.seen r c × (Has v.seen.held r → c ≡ Claimed → IsClaimer v.stage r) × (Has v.seen.lasts r.thread → r.sync < v.rows → is_taken c ≡ true)
 
-  -- what the pass has seen agrees with itself, and with what went before the table
+  -- what the pass has seen agrees with itself, and with what went before the table, and what it saw open has words
   abbrev pub AgreesWithItself : View M → Type 0
-  AgreesWithItself v = Coherent v.threads v.rows v.seen × AreSettled (opening_by v) v.seen
+  AgreesWithItself v = Coherent v.threads v.rows v.seen × AreSettled (opening_by v) v.seen × OpenHaveWords v.layout v.seen
 
   -- the word that was found is a cell's
   abbrev pub looked : {S : Type 0} → Step S → Me S (View M) → ℕ → Me S (View M) → Type 0
@@ -76,14 +77,15 @@ module _ {M : Type 0} where
 
   -- and of the number of a row's offers, that rows have room for so many
   abbrev pub has_read : {S : Type 0} → Step S → Me S (View M) → ℕ → Me S (View M) → Type 0
-  has_read st m n w = (r : Row) (p : ℕ) → p < row_len m.0.offers → At st m r p → (w ≡ (read_word r p n m.0, m.1)) × AgreesWithItself w.0 × (p ≡ 1 → unwrap_or (count_of n) 0 ≤ m.0.offers)
+  has_read st m n w = (r : Row) (p : ℕ) → p < row_len m.0.layout.offers → At st m r p → (w ≡ (read_word r p n m.0, m.1)) × AgreesWithItself w.0 × (p ≡ 1 → unwrap_or (count_of n) 0 ≤ m.0.layout.offers)
 
-  -- a glance finds nothing new: the pass has heard of one table only, so what it has heard agrees with what it had seen
+  -- a glance finds nothing new: the pass has heard of one table only, so what it has heard agrees with what it had seen. A row that
+  -- has no words is Fresh
   abbrev pub glanced : {S : Type 0} → Step S → Me S (View M) → ℕ → Me S (View M) → Type 0
-  glanced st m n w = (w ≡ m) × AgreesWithItself w.0
+  glanced st m n w = (w ≡ m) × AgreesWithItself w.0 × ((r : Row) → r.thread < m.0.threads → r.sync < m.0.rows → (¬ HasWords m.0.layout r) → Agrees m.0 r Fresh)
 
   abbrev pub drafted : {S : Type 0} → Step S → Me S (View M) → ℕ → Me S (View M) → Type 0
-  drafted st m n w = (r : Row) (p : ℕ) → p < row_len m.0.offers → At st m r p → (w ≡ (word_drafted r p n m.0, m.1)) × AgreesWithItself w.0
+  drafted st m n w = (r : Row) (p : ℕ) → p < row_len m.0.layout.offers → At st m r p → (w ≡ (word_drafted r p n m.0, m.1)) × AgreesWithItself w.0
 
   -- the front slot of those that are out goes home, in a table that has slots
   abbrev pub GoesHome : {S : Type 0} → List (Option M) → List (ℕ × S) → List (ℕ × S) → Type 0

@@ -1,13 +1,14 @@
 //! The table and its rule.
 
-ghost use Rattle.std.specs.Prelude.{◌≡◌, ◌*◌, ◌<◌, ◌≤◌, length};
+ghost use Rattle.std.specs.Prelude.{◌≡◌, ◌<◌, ◌≤◌, ℕ, length};
 ghost use Rattle.protocol.specs.Openings.{IsOpening, greatest};
-ghost use Rattle.protocol.specs.Short.{row_len, short_len};
+ghost use Rattle.std.proofs.Props.{props};
+ghost use Rattle.protocol.specs.Short.{AreStarts, Fits, row_len, rows_of, words_below};
 ghost use Rattle.cell_table.specs.Views.{opening_in};
 
 use crate::view::{Shape, View};
 use atomic_table::{Table, TableRule};
-use protocol::Resident;
+use protocol::{Resident, Starts};
 use std::alloc::Global;
 
 /// The rule of the cells.
@@ -30,14 +31,18 @@ pub struct Board<M: Resident> {
     pub(crate) shape: Shape<M>,
     /// The greatest stamp of the opening.
     pub(crate) stamps: u32,
-    /// How many words a row has, and a thread.
+    /// How many words a row has.
     pub(crate) row_words: usize,
-    pub(crate) thread_words: usize,
+    /// Where each thread's words start.
+    pub(crate) starts: Starts,
     ghost keyed: { words.shared.key ≡ shape },
-    ghost sized: { words.shared.table_id.words ≡ shape.threads * short_len shape.offers shape.rows },
-    ghost lengths: { (row_words ≡ row_len shape.offers) × (thread_words ≡ short_len shape.offers shape.rows) },
+    ghost sized: { words.shared.table_id.words ≡ words_below shape.layout shape.threads },
+    ghost row_length: { row_words ≡ row_len shape.layout.offers },
+    ghost located: { AreStarts shape.layout starts } by { Prim.hlevel props },
+    ghost fits: { Fits shape.layout shape.rows } by { Prim.hlevel props },
+    ghost first_rows: { (t : ℕ) → t < shape.threads → 1 ≤ rows_of shape.layout t } by { Prim.hlevel props },
     ghost slots: { words.shared.table_id.slots ≡ length shape.first.value.items },
     ghost full: { 0 < length shape.first.value.items → length shape.first.value.items ≡ shape.threads },
     ghost opens: { IsOpening (opening_in shape) shape.rows × (length (opening_in shape).threads ≡ shape.threads) × (stamps ≡ greatest (opening_in shape)) },
-    ghost small: { (1 ≤ shape.threads) × (shape.threads ≤ 64) × (1 ≤ shape.rows) × (shape.rows ≤ 1024) × (shape.offers ≤ 8) },
+    ghost small: { (1 ≤ shape.threads) × (shape.threads ≤ 64) × (1 ≤ shape.rows) × (shape.rows ≤ 1024) },
 }

@@ -2,7 +2,7 @@
 
 ghost use Rattle.std.specs.Prelude.{◌≡◌, ◌+◌, ◌*◌, ◌<◌, ◌≤◌, ℕ, IfNone, IfSome, List, length, None, Some, slice_get};
 ghost use Rattle.protocol.specs.Openings.{HadEnded, HadStarted, greatest, state_in, word_for};
-ghost use Rattle.protocol.specs.Short.{short_len};
+ghost use Rattle.protocol.specs.Short.{AreStarts, Fits, HasWords, words_below};
 ghost use Rattle.protocol.specs.Tables.{carried_by, cell_at};
 ghost use Rattle.cell_table.specs.Closings.{AreInTurn, HandsOut, HandsOutWaiting, HasAll, IsHandedOut, IsHomeOf, IsOpenAt, MadeBy, words_of};
 ghost use Rattle.std.specs.Slots.{slots_items, slots_len, IsFull};
@@ -25,7 +25,7 @@ ghost use Rattle.protocol.specs.Acting.{ActsAs, EndsAt, HasStart, acts_in, befor
 use crate::board::Board;
 use crate::view::{Shape, View};
 use atomic_table::{Closed, Seat};
-use protocol::{Cell, LIVES, Ledger, NACKS, Resident, Row, unpack_cell};
+use protocol::{Cell, Ledger, Resident, Row, Starts, unpack_cell};
 use std::alloc::Global;
 
 impl<M: Resident + Drop> Board<M> {
@@ -70,15 +70,16 @@ impl<M: Resident + Drop> Board<M> {
             words,
             shape,
             stamps,
+            starts,
             ..
         } = self;
         let closed = words.close_with(seat);
         let words = copy_words(&closed, spare);
-        let machines = take_home(closed, words.as_slice(), &shape, places);
+        let machines = take_home(closed, words.as_slice(), &shape, &starts, places);
         let ledger = Ledger::of_short_words(
             shape.threads as u8,
             shape.rows as u16,
-            shape.offers as u8,
+            shape.layout,
             words,
             stamps,
         );
@@ -91,10 +92,12 @@ fn take_home<M: Drop>(
     closed: Closed<Option<M>, Global>,
     words: &[u64],
     shape: &Shape<M>,
+    starts: &Starts,
     places: Vec<Option<M>>,
 ) -> Vec<Option<M>>
     requires full { IsFull closed.slots }
-    requires shape { (shape.now.threads ≤ 64) × (shape.now.rows ≤ 1024) × (shape.now.offers ≤ 8) × (length words.now ≡ shape.now.threads * short_len shape.now.offers shape.now.rows) }
+    requires shape { (shape.now.threads ≤ 64) × (shape.now.rows ≤ 1024) × Fits shape.now.layout shape.now.rows × (length words.now ≡ words_below shape.now.layout shape.now.threads) }
+    requires starts { AreStarts shape.now.layout starts.now }
     requires turns { AreInTurn shape.now words.now }
     requires slots { slots_len closed.slots ≤ shape.now.threads }
     requires places { length places.items ≡ slots_len closed.slots }
@@ -108,7 +111,7 @@ fn take_home<M: Drop>(
     let mut at = 0;
     while at < closed.slot_count() {
         let value = closed.take(at);
-        places[at] = at_home(words, shape, at as u8, value);
+        places[at] = at_home(words, shape, starts, at as u8, value);
         at += 1;
     }
     closed.free();
@@ -116,14 +119,21 @@ fn take_home<M: Drop>(
 }
 
 /// What lies in the slot of the thread, where a row of it is opened that nobody has taken.
-fn at_home<M: Drop>(words: &[u64], shape: &Shape<M>, thread: u8, value: Option<M>) -> Option<M>
-    requires shape { (shape.now.threads ≤ 64) × (shape.now.rows ≤ 1024) × (shape.now.offers ≤ 8) × (length words.now ≡ shape.now.threads * short_len shape.now.offers shape.now.rows) }
+fn at_home<M: Drop>(
+    words: &[u64],
+    shape: &Shape<M>,
+    starts: &Starts,
+    thread: u8,
+    value: Option<M>,
+) -> Option<M>
+    requires shape { (shape.now.threads ≤ 64) × (shape.now.rows ≤ 1024) × Fits shape.now.layout shape.now.rows × (length words.now ≡ words_below shape.now.layout shape.now.threads) }
+    requires starts { AreStarts shape.now.layout starts.now }
     requires turns { AreInTurn shape.now words.now }
     requires thread { thread < shape.now.threads }
     ensures home { (m : M) → result ≡ Some m → (value ≡ Some m) × ((g : ℕ) × IsOpenAt shape.now words.now thread g) }
     ensures all { (g : ℕ) → IsOpenAt shape.now words.now thread g → result ≡ value }
 {
-    match open_row(words, shape, thread) {
+    match open_row(words, shape, starts, thread) {
         Some(_) => value,
         None => None,
     }
@@ -131,18 +141,19 @@ fn at_home<M: Drop>(words: &[u64], shape: &Shape<M>, thread: u8, value: Option<M
 
 /// The thread's row that is opened and that nobody has taken, if it has one. The rows that were taken are its first
 /// ones, and those that are not opened its last ones, so it is found by halves.
-fn open_row<M>(words: &[u64], shape: &Shape<M>, thread: u8) -> Option<u32>
-    requires shape { (shape.now.threads ≤ 64) × (shape.now.rows ≤ 1024) × (shape.now.offers ≤ 8) × (length words.now ≡ shape.now.threads * short_len shape.now.offers shape.now.rows) }
+fn open_row<M>(words: &[u64], shape: &Shape<M>, starts: &Starts, thread: u8) -> Option<u32>
+    requires shape { (shape.now.threads ≤ 64) × (shape.now.rows ≤ 1024) × Fits shape.now.layout shape.now.rows × (length words.now ≡ words_below shape.now.layout shape.now.threads) }
+    requires starts { AreStarts shape.now.layout starts.now }
     requires turns { AreInTurn shape.now words.now }
     requires thread { thread < shape.now.threads }
     ensures found { IfSome result (λ g. IsOpenAt shape.now words.now thread g) }
     ensures none { IfNone result ((g : ℕ) → IsOpenAt shape.now words.now thread g → ⊥) }
 {
     let mut from = 0;
-    let mut to = shape.rows as u32;
+    let mut to = u32::from(shape.layout.lens[usize::from(thread)]);
     while from < to {
         let sync = from + (to - from) / 2;
-        match cell_there(words, shape, Row { thread, sync }) {
+        match cell_there(words, shape, starts, Row { thread, sync }) {
             Cell::Taken(_) => from = sync + 1,
             Cell::Fresh => to = sync,
             Cell::Waiting | Cell::Claimed | Cell::Synched(_) => return Some(sync),
@@ -153,14 +164,13 @@ fn open_row<M>(words: &[u64], shape: &Shape<M>, thread: u8) -> Option<u32>
 
 /// The row's cell, by these words.
 #[tactic(auto, using(crate::proofs::Endings::cell_from))]
-fn cell_there<M>(words: &[u64], shape: &Shape<M>, row: Row) -> Cell
-    requires shape { (shape.now.threads ≤ 64) × (shape.now.rows ≤ 1024) × (shape.now.offers ≤ 8) × (length words.now ≡ shape.now.threads * short_len shape.now.offers shape.now.rows) }
-    requires row { (row.thread < shape.now.threads) × (row.sync < shape.now.rows) }
+fn cell_there<M>(words: &[u64], shape: &Shape<M>, starts: &Starts, row: Row) -> Cell
+    requires shape { (shape.now.threads ≤ 64) × (shape.now.rows ≤ 1024) × Fits shape.now.layout shape.now.rows × (length words.now ≡ words_below shape.now.layout shape.now.threads) }
+    requires starts { AreStarts shape.now.layout starts.now }
+    requires row { (row.thread < shape.now.threads) × HasWords shape.now.layout row }
     ensures { result ≡ cell_at (words_of shape.now words.now) row }
 {
-    let row_len = 2 + 4 * shape.offers as usize;
-    let thread_len = shape.rows as usize * row_len + NACKS + LIVES;
-    let place = usize::from(row.thread) * thread_len + row.sync as usize * row_len;
+    let place = shape.layout.place(starts, row, 0);
     match unpack_cell(words[place]) {
         Some(cell) => cell,
         None => Cell::Fresh,

@@ -29,9 +29,9 @@ impl<M: Resident> Board<M> {
     // where the word of a thread's life lies
     fn life_place(&self, thread: u8) -> usize
         requires { thread < self.now.shape.threads }
-        ensures { (result ≡ short_course_place self.now.shape.offers self.now.shape.rows thread) × (result < self.now.words.shared.table_id.words) }
+        ensures { (result ≡ short_course_place self.now.shape.layout thread) × (result < self.now.words.shared.table_id.words) }
     {
-        usize::from(thread) * self.thread_len() + self.shape.rows as usize * self.row_len() + NACKS
+        self.shape.layout.behind(&self.starts, usize::from(thread)) + NACKS
     }
 
     /// Reads where the thread is on its course.

@@ -1,8 +1,8 @@
 //! How a table begins, and how its rows are dealt.
 
-ghost use Rattle.std.specs.Prelude.{◌≡◌, ◌*◌, ◌+◌, ◌<◌, ◌≤◌, [], IfOk, length};
+ghost use Rattle.std.specs.Prelude.{◌≡◌, ◌+◌, ◌<◌, ◌≤◌, ℕ, [], IfOk, length};
 ghost use Rattle.protocol.specs.Openings.{AreFirstWords, IsOpening, greatest};
-ghost use Rattle.protocol.specs.Short.{short_len};
+ghost use Rattle.protocol.specs.Short.{Fits, rows_of, words_below};
 ghost use Rattle.cell_table.specs.Closings.{words_of};
 ghost use Rattle.cell_table.specs.Rule.{AreMachines, dealer, dealt_pass};
 ghost use Rattle.cell_table.specs.Views.{opening_in};
@@ -11,7 +11,7 @@ use crate::board::{Board, Words};
 use crate::plays::Deal;
 use crate::view::{Shape, View};
 use atomic_table::Seat;
-use protocol::{LIVES, NACKS, Resident};
+use protocol::Resident;
 use std::alloc::{AllocError, Global};
 
 impl<M: Resident + Drop> Board<M> {
@@ -25,25 +25,25 @@ impl<M: Resident + Drop> Board<M> {
         words: &[u64],
         slots: Vec<Option<M>>,
     ) -> Result<(Board<M>, Seat<Option<M>, View<M>>), AllocError>
-        requires shape { (shape.threads ≡ length (opening_in shape).threads) × (1 ≤ shape.rows) × (shape.rows ≤ 1024) × (1 ≤ shape.passes) × (shape.offers ≤ 8) }
+        requires shape { (shape.threads ≡ length (opening_in shape).threads) × (1 ≤ shape.rows) × (shape.rows ≤ 1024) × (1 ≤ shape.passes) }
+        requires layout { Fits shape.layout shape.rows × ((t : ℕ) → t < shape.threads → 1 ≤ rows_of shape.layout t) }
         requires opening { IsOpening (opening_in shape) shape.rows × (stamps ≡ greatest (opening_in shape)) }
-        requires sized { length words.now ≡ shape.threads * short_len shape.offers shape.rows }
+        requires sized { length words.now ≡ words_below shape.layout shape.threads }
         requires words { AreFirstWords (opening_in shape) (words_of shape words.now) }
         requires slots { slots.items ≡ shape.first.value.items }
         requires full { AreMachines (opening_in shape) shape.first.value.items }
         ensures board { IfOk result (λ b. (b.0.shape ≡ shape) × (b.1.table_id ≡ b.0.words.shared.table_id)) }
         ensures seat { IfOk result (λ b. b.1.me ≡ (dealer shape 0, [])) }
     {
-        let row_words = 2 + 4 * shape.offers as usize;
-        let thread_words = shape.rows as usize * row_words + NACKS + LIVES;
+        let layout = shape.layout;
         match Words::new(alloc, words, slots, &shape) {
             Ok((words, seat)) => Ok((
                 Board {
                     words,
                     shape,
                     stamps,
-                    row_words,
-                    thread_words,
+                    row_words: layout.row_len(),
+                    starts: layout.starts(),
                 },
                 seat,
             )),

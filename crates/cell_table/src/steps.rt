@@ -15,7 +15,7 @@ ghost use Rattle.protocol_values.specs.declared.Step.TheVariants.{
   Take as TakeStep,
   Yield as YieldStep,
 };
-ghost use Rattle.protocol.specs.Short.{row_len, short_len, short_nack_place, short_place};
+ghost use Rattle.protocol.specs.Short.{HasWords, row_len, short_nack_place, short_place};
 ghost use Rattle.protocol.specs.Tables.{bound_row};
 ghost use Rattle.protocol_values.specs.Values.{next_row};
 ghost use Rattle.protocol.specs.Worlds.{mirrored};
@@ -57,31 +57,34 @@ impl<M: Resident> Board<M> {
 
     /// Whether a row has room for so many offers.
     pub fn has_room(&self, count: usize) -> bool
-        ensures { IsTrue result ↔ count ≤ self.now.shape.offers }
+        ensures { IsTrue result ↔ count ≤ self.now.shape.layout.offers }
     {
-        count as u64 <= self.shape.offers
+        count <= self.shape.layout.offers
     }
 
     // how many words a row has
     pub(crate) fn row_len(&self) -> usize
-        ensures { result ≡ row_len self.now.shape.offers }
+        ensures { result ≡ row_len self.now.shape.layout.offers }
     {
         self.row_words
     }
 
-    // how many words a thread has
-    pub(crate) fn thread_len(&self) -> usize
-        ensures { result ≡ short_len self.now.shape.offers self.now.shape.rows }
+    /// Whether there are words for the row.
+    #[inline(always)]
+    pub fn has_words(&self, row: Row) -> bool
+        requires { HasRow self.now row }
+        ensures { IsTrue result ↔ HasWords self.now.shape.layout row }
     {
-        self.thread_words
+        row.sync < u32::from(self.shape.layout.lens[usize::from(row.thread)])
     }
 
     // where the word of a row at a place lies
+    #[inline(always)]
     fn place(&self, row: Row, place: u8) -> usize
-        requires { HasRow self.now row × (place < row_len self.now.shape.offers) }
-        ensures { (result ≡ short_place self.now.shape.offers self.now.shape.rows row place) × (result < self.now.words.shared.table_id.words) }
+        requires { HasRow self.now row × HasWords self.now.shape.layout row × (place < row_len self.now.shape.layout.offers) }
+        ensures { (result ≡ short_place self.now.shape.layout row place) × (result < self.now.words.shared.table_id.words) }
     {
-        usize::from(row.thread) * self.thread_len()
+        self.starts[usize::from(row.thread)] as usize
             + row.sync as usize * self.row_len()
             + usize::from(place)
     }
@@ -89,10 +92,11 @@ impl<M: Resident> Board<M> {
     // where the word of a nack lies
     fn nack_place(&self, nack: NackName) -> usize
         requires { HasNack self.now nack }
-        ensures { (result ≡ short_nack_place self.now.shape.offers self.now.shape.rows nack) × (result < self.now.words.shared.table_id.words) }
+        ensures { (result ≡ short_nack_place self.now.shape.layout nack) × (result < self.now.words.shared.table_id.words) }
     {
-        usize::from(nack.thread) * self.thread_len()
-            + self.shape.rows as usize * self.row_len()
+        self.shape
+            .layout
+            .behind(&self.starts, usize::from(nack.thread))
             + usize::from(nack.k)
     }
 
@@ -139,23 +143,29 @@ impl<M: Resident> Board<M> {
         }
     }
 
-    /// Reads the row's cell.
+    /// Reads the row's cell. A row that has no words is Fresh.
+    #[inline(always)]
     pub fn look(&self, seat: &mut Seat<Option<M>, View<M>>, row: Row) -> Cell
         requires { Sits self.now seat.old × HasRow self.now row }
         ensures sits { StaysSeated self.now seat.old seat.new }
         ensures saw { seat.new.me.0 ≡ saw row result seat.old.me.0 }
         ensures agrees { Agrees seat.old.me.0 row result }
     {
+        if !self.has_words(row) {
+            self.glance(seat);
+            return Cell::Fresh;
+        }
         read_cell(self.words.shared.load::<Look>(seat, self.place(row, 0)))
     }
 
     /// Reads a word of a row that was seen opened.
     pub fn read(&self, seat: &mut Seat<Option<M>, View<M>>, row: Row, place: u8) -> u64
         requires sits { Sits self.now seat.old × HasRow self.now row }
-        requires place { (1 ≤ place) × (place < row_len self.now.shape.offers) × Has seat.old.me.0.seen.opened row }
+        requires words { HasWords self.now.shape.layout row }
+        requires place { (1 ≤ place) × (place < row_len self.now.shape.layout.offers) × Has seat.old.me.0.seen.opened row }
         ensures sits { StaysSeated self.now seat.old seat.new }
         ensures read { seat.new.me.0 ≡ read_word row place result seat.old.me.0 }
-        ensures few { place ≡ 1 → unwrap_or (count_of result) 0 ≤ self.now.shape.offers }
+        ensures few { place ≡ 1 → unwrap_or (count_of result) 0 ≤ self.now.shape.layout.offers }
     {
         self.words.shared.load::<Read>(seat, self.place(row, place))
     }
@@ -163,8 +173,9 @@ impl<M: Resident> Board<M> {
     /// Writes a word of a held row that is not opened yet: no greater number of offers than a row has room for.
     pub fn draft(&self, seat: &mut Seat<Option<M>, View<M>>, row: Row, place: u8, word: u64)
         requires sits { Sits self.now seat.old × HasRow self.now row }
-        requires place { (1 ≤ place) × (place < row_len self.now.shape.offers) × (is_word_for place word ≡ true) }
-        requires few { place ≡ 1 → unwrap_or (count_of word) 0 ≤ self.now.shape.offers }
+        requires words { HasWords self.now.shape.layout row }
+        requires place { (1 ≤ place) × (place < row_len self.now.shape.layout.offers) × (is_word_for place word ≡ true) }
+        requires few { place ≡ 1 → unwrap_or (count_of word) 0 ≤ self.now.shape.layout.offers }
         requires resting { seat.old.me.0.stage ≡ Resting }
         requires held { Has seat.old.me.0.seen.held row × (¬ Has seat.old.me.0.seen.opened row) }
         requires alive { ¬ SawEnded seat.old.me.0.seen row.thread }
@@ -179,6 +190,7 @@ impl<M: Resident> Board<M> {
     /// Opens a held row that is Fresh.
     pub fn open(&self, seat: &mut Seat<Option<M>, View<M>>, row: Row)
         requires sits { Sits self.now seat.old × HasRow self.now row }
+        requires words { HasWords self.now.shape.layout row }
         requires held { Has seat.old.me.0.seen.held row × (¬ Has seat.old.me.0.seen.opened row) × (seat.old.me.0.stage ≡ Resting) }
         requires alive { ¬ SawEnded seat.old.me.0.seen row.thread }
         requires parked { 0 < length self.now.shape.first.value.items → (value : M) × (seat.old.me.1 ≡ (row.thread, Some value) ∷ rest seat.old.me.1) × IsReady M.stands self.now.shape.first.value.items seat.old.me.0.results seat.old.me.0.seen row value }
@@ -194,6 +206,7 @@ impl<M: Resident> Board<M> {
     /// Takes what stood for the row's thread at first out of its slot. The row is the thread's first, and held.
     pub fn begin(&self, seat: &mut Seat<Option<M>, View<M>>, row: Row)
         requires sits { Sits self.now seat.old × HasRow self.now row }
+        requires words { HasWords self.now.shape.layout row }
         requires first { (row.sync ≡ 0) × Has seat.old.me.0.seen.held row × (¬ Has seat.old.me.0.seen.begun row) }
         requires some { 0 < length self.now.shape.first.value.items }
         ensures sits { StaysAtTable self.now seat.old seat.new }
@@ -239,6 +252,7 @@ impl<M: Resident> Board<M> {
     /// Claims a held row, where it is Waiting; else says what it is.
     pub fn claim(&self, seat: &mut Seat<Option<M>, View<M>>, row: Row) -> Result<(), Cell>
         requires sits { Sits self.now seat.old × HasRow self.now row }
+        requires words { HasWords self.now.shape.layout row }
         requires held { Has seat.old.me.0.seen.held row × (seat.old.me.0.stage ≡ Resting) }
         ensures sits { StaysSeated self.now seat.old seat.new }
         ensures claimed { IfOk result (λ _. seat.new.me.0 ≡ did (ClaimStep row) (turned (Claims row) row seat.old.me.0)) }
@@ -256,6 +270,7 @@ impl<M: Resident> Board<M> {
     /// Gives up the row that this call has claimed.
     pub fn give_up(&self, seat: &mut Seat<Option<M>, View<M>>, row: Row)
         requires sits { Sits self.now seat.old × HasRow self.now row }
+        requires words { HasWords self.now.shape.layout row }
         requires held { Has seat.old.me.0.seen.held row × (seat.old.me.0.stage ≡ Claims row) }
         ensures sits { StaysSeated self.now seat.old seat.new }
         ensures waits { seat.new.me.0 ≡ did (YieldStep row) (turned Resting row seat.old.me.0) }
@@ -276,6 +291,7 @@ impl<M: Resident> Board<M> {
         joined: Joined,
     ) -> Result<(), Cell>
         requires sits { Sits self.now seat.old × HasRow self.now row }
+        requires words { HasWords self.now.shape.layout row }
         requires held { Has seat.old.me.0.seen.held mine × (seat.old.me.0.stage ≡ Claims mine) }
         requires can { CanJoin seat.old.me.0.seen mine own row partner joined × IsJoinedInRange joined }
         ensures sits { StaysSeated self.now seat.old seat.new }
@@ -299,6 +315,7 @@ impl<M: Resident> Board<M> {
         joined: Joined,
     ) -> Result<(), Cell>
         requires sits { Sits self.now seat.old × HasRow self.now row }
+        requires words { HasWords self.now.shape.layout row }
         requires resting { seat.old.me.0.stage ≡ Resting }
         requires can { CanGrant seat.old.me.0.seen row joined.own joined × IsJoinedInRange joined }
         ensures sits { StaysSeated self.now seat.old seat.new }
@@ -323,6 +340,7 @@ impl<M: Resident> Board<M> {
         joined: Joined,
     ) -> Result<(), Cell>
         requires sits { Sits self.now seat.old × HasRow self.now row }
+        requires words { HasWords self.now.shape.layout row }
         requires resting { seat.old.me.0.stage ≡ Resting }
         requires range { IsJoinedInRange joined }
         ensures sits { StaysAtTable self.now seat.old seat.new }
@@ -348,6 +366,7 @@ impl<M: Resident> Board<M> {
         joined: Joined,
     )
         requires sits { Sits self.now seat.old × HasRow self.now row }
+        requires words { HasWords self.now.shape.layout row }
         requires held { Has seat.old.me.0.seen.held row × (seat.old.me.0.stage ≡ Joins row other joined) }
         requires partner { (joined.partner ≡ Some (row, own)) × IsJoinedInRange (mirrored other joined own) }
         ensures sits { StaysSeated self.now seat.old seat.new }

@@ -1,9 +1,13 @@
 //! One pass tells another what it has seen.
 
 ghost use Rattle.std.specs.Prelude.{◌≡◌};
+ghost use Rattle.protocol_values.specs.declared.Cell.TheVariants.{Fresh};
+ghost use Rattle.protocol_values.specs.declared.Row.{Row};
+ghost use Rattle.protocol.specs.Short.{HasWords};
+ghost use Rattle.cell_table.specs.Told.{Agrees};
 ghost use Rattle.cell_table.specs.Rule.{heard_pass, left_pass, told_last, told_pass};
 ghost use Rattle.cell_table.specs.declared.view.Stage.TheVariants.{Resting};
-ghost use Rattle.cell_table.specs.Seats.{Sits, StaysSeated};
+ghost use Rattle.cell_table.specs.Seats.{HasRow, Sits, StaysSeated};
 ghost use Rattle.cell_table.specs.Views.{opening_in};
 
 use crate::board::Board;
@@ -26,8 +30,8 @@ impl<M: Resident> Board<M> {
         self.glance(to);
     }
 
-    /// The same, and `from` leaves the table by it: it makes no more steps. `to` has gathered its seat from now on, and
-    /// the steps that it made.
+    /// What `from` has seen, and what it drafted for its opened rows, is seen by `to` from now on, and `from` leaves
+    /// the table by it: it makes no more steps. `to` has gathered its seat, and the steps that it made.
     pub fn leave(&self, from: &mut Seat<Option<M>, View<M>>, to: &mut Seat<Option<M>, View<M>>)
         requires sits { Sits self.now from.old × Sits self.now to.old }
         requires rests { from.old.me.0.stage ≡ Resting }
@@ -42,11 +46,13 @@ impl<M: Resident> Board<M> {
     }
 
     /// Reads a word and learns nothing by it: a pass that was told something sees so that all that it
-    /// has seen is of one table.
-    fn glance(&self, seat: &mut Seat<Option<M>, View<M>>)
-        requires sits { (seat.old.table_id ≡ self.now.words.shared.table_id) × (seat.old.me.0.threads ≡ self.now.shape.threads) × (seat.old.me.0.rows ≡ self.now.shape.rows) × (seat.old.me.0.first ≡ self.now.shape.first.value.items) × (seat.old.me.0.lives ≡ (opening_in self.now.shape).threads) × (seat.old.me.0.nacks ≡ (opening_in self.now.shape).nacks) × (seat.old.me.0.offers ≡ self.now.shape.offers) }
+    /// has seen is of one table, and that rows that have no words are Fresh.
+    #[inline(never)]
+    pub(crate) fn glance(&self, seat: &mut Seat<Option<M>, View<M>>)
+        requires sits { (seat.old.table_id ≡ self.now.words.shared.table_id) × (seat.old.me.0.threads ≡ self.now.shape.threads) × (seat.old.me.0.rows ≡ self.now.shape.rows) × (seat.old.me.0.first ≡ self.now.shape.first.value.items) × (seat.old.me.0.lives ≡ (opening_in self.now.shape).threads) × (seat.old.me.0.nacks ≡ (opening_in self.now.shape).nacks) × (seat.old.me.0.layout ≡ self.now.shape.layout) }
         ensures sits { StaysSeated self.now seat.old seat.new }
         ensures stays { seat.new.me.0 ≡ seat.old.me.0 }
+        ensures missing { (r : Row) → HasRow self.now r → (¬ HasWords self.now.shape.layout r) → Agrees seat.old.me.0 r Fresh }
     {
         self.words.shared.load::<Glance>(seat, 0);
     }

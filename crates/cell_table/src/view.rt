@@ -1,7 +1,7 @@
 //! A table's size, and what a pass has seen. No value of `Stage`, `Seen` or `View` is made: contracts
 //! alone read them.
 
-use protocol::{Life, NackState, Opening};
+use protocol::{Layout, Life, NackState, Opening};
 use protocol_values::{Binding, Joined, Message, NackName, Row, Step};
 use std::collections::LinkedList;
 use std::snapshot::Snapshot;
@@ -11,8 +11,8 @@ use std::snapshot::Snapshot;
 pub struct Shape<M> {
     pub threads: u64,
     pub rows: u64,
-    /// How many offers a row has room for: 0 to 8.
-    pub offers: u64,
+    /// For how many offers a row has room, and for how many rows each thread has words.
+    pub layout: Layout,
     pub passes: u64,
     /// Which threads run, wait to be started or have ended, with their stamps, and the nacks that were settled.
     pub opening: Snapshot<Opening>,
@@ -69,7 +69,7 @@ pub struct View<M> {
     /// The table's size.
     pub threads: u64,
     pub rows: u64,
-    pub offers: u64,
+    pub layout: Layout,
     pub passes: u64,
     /// The opening's threads and nacks.
     pub lives: LinkedList<(Life, u32)>,

@@ -24,7 +24,7 @@ returns-in-Unbound-clause-sits g c =
     let told = c.compare_exchange-found.ensures.2 c.args.nack c.args.bound (search rules) c.requires.range c.pack_nack-word.ensures in
     let free : nack_read c.compare_exchange-found.result ≡ Unbound = (search rules) in
     let is = (told.0 free).0 in
-    ((search rules), sits_still c.args.self.now c.args.seat.now c.compare_exchange-found.new.seat (search rules) (search rules) (ap (λ z. z.0.threads) is) (ap (λ z. z.0.rows) is) (ap (λ z. z.0.offers) is) (ap (λ z. z.0.first) is) (ap (λ z. z.0.lives) is) (ap (λ z. z.0.nacks) is) told.2, ap (λ z. z.1) is)
+    ((search rules), sits_still c.args.self.now c.args.seat.now c.compare_exchange-found.new.seat (search rules) (search rules) (ap (λ z. z.0.threads) is) (ap (λ z. z.0.rows) is) (ap (λ z. z.0.layout) is) (ap (λ z. z.0.first) is) (ap (λ z. z.0.lives) is) (ap (λ z. z.0.nacks) is) told.2, ap (λ z. z.1) is)
 
 pub returns-in-Unbound-clause-bound : goal.returns-in-Unbound-clause-bound
 returns-in-Unbound-clause-bound g c =
@@ -41,7 +41,7 @@ returns-in_default g c =
     let found = told.1 (λ e. other (sym says ∙ e)) in
     let same = looked_same c.args.nack (nack_read c.compare_exchange-found.result) c.args.seat.now.me.0 in
     record {
-      sits = ((search rules), sits_still c.args.self.now c.args.seat.now c.compare_exchange-found.new.seat (search rules) (search rules) (ap (λ z. z.0.threads) found.0 ∙ same.0) (ap (λ z. z.0.rows) found.0 ∙ same.1) (ap (λ z. z.0.offers) found.0 ∙ same.5) (ap (λ z. z.0.first) found.0 ∙ same.2) (ap (λ z. z.0.lives) found.0 ∙ same.3) (ap (λ z. z.0.nacks) found.0 ∙ same.4) told.2, ap (λ z. z.1) found.0);
+      sits = ((search rules), sits_still c.args.self.now c.args.seat.now c.compare_exchange-found.new.seat (search rules) (search rules) (ap (λ z. z.0.threads) found.0 ∙ same.0) (ap (λ z. z.0.rows) found.0 ∙ same.1) (ap (λ z. z.0.layout) found.0 ∙ same.5) (ap (λ z. z.0.first) found.0 ∙ same.2) (ap (λ z. z.0.lives) found.0 ∙ same.3) (ap (λ z. z.0.nacks) found.0 ∙ same.4) told.2, ap (λ z. z.1) found.0);
       bound = tt;
       found = (
         other,

@@ -23,7 +23,7 @@ compare_exchange-found-requires g c = (
 
 pub returns-clause-found : goal.returns-clause-found
 returns-clause-found g c =
-    let told = c.compare_exchange-found.ensures.2 c.args.row (at_view c.args.self.now.shape c.args.seat.now.me.0 c.args.row (search rules) (search rules) (search rules), place_view c.args.self.now.shape c.args.seat.now.me.0 c.args.row 0 c.place.result (search rules) (search rules) (search rules)) in
+    let told = c.compare_exchange-found.ensures.2 c.args.row (at_view c.args.self.now.shape c.args.seat.now.me.0 c.args.row (search rules) (search rules) (search rules) (search rules), place_view c.args.self.now.shape c.args.seat.now.me.0 c.args.row 0 c.place.result (search rules) (search rules)) in
     exchange_refused c.exchanged.result (λ cell. (c.compare_exchange-found.result ≢ c.pack_cell-waiting.result) × (cell ≡ cell_read c.compare_exchange-found.result)) (λ cell. (cell ≢ Waiting) × (c.compare_exchange-found.new.seat.me.0 ≡ saw c.args.row cell c.args.seat.now.me.0) × Agrees c.args.seat.now.me.0 c.args.row cell)
     (λ cell refused.
     let other : c.compare_exchange-found.result ≢ cell_word Waiting = (λ e. refused.0 (e ∙ sym c.pack_cell-waiting.ensures)) in

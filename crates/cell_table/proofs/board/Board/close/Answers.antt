@@ -17,7 +17,7 @@ pub of_short_words-ledger-requires-clause-lawful : goal.of_short_words-ledger-re
 of_short_words-ledger-requires-clause-lawful g c =
     let size : c.args.seat.me.0.threads ≡ c.args.self.shape.threads = (search rules) in
     let some = c.args.self.small.0 in
-    subst (λ (n : ℕ). IsLawful (ledger_of (wide_table c.args.self.shape.offers (record { threads = c.args.self.shape.threads; rows = c.args.self.shape.rows; words = c.copy_words-words.result.items; opening = n })))) (sym c.args.self.opens.2)
+    subst (λ (n : ℕ). IsLawful (ledger_of (wide_table c.args.self.shape.layout (record { threads = c.args.self.shape.threads; rows = c.args.self.shape.rows; words = c.copy_words-words.result.items; opening = n })))) (sym c.args.self.opens.2)
     (final_lawful g.M.Resident.stands c.args.self.shape c.args.seat.id c.args.seat.me.0 (omega arith) c.copy_words-words.result.items _
     (ended g.M.Resident.stands _ _ _ _ _ _ _ c.args.self.keyed c.copy_words-words.ensures c.close_with-closed.ensures.values.2))
 

@@ -19,10 +19,10 @@ store-requires g c = (
 told : (g : _) (c : goal.After-store g)
     → (c.store.new.seat.me ≡ (word_drafted c.args.row c.args.place c.args.word c.args.seat.now.me.0, c.args.seat.now.me.1)) × AgreesWithItself c.store.new.seat.me.0
 told g c = c.store.ensures.2 c.args.row c.args.place (search rules)
-    (at_view c.args.self.now.shape c.args.seat.now.me.0 c.args.row (search rules) (search rules) (search rules), place_view c.args.self.now.shape c.args.seat.now.me.0 c.args.row c.args.place c.place.result (search rules) (search rules) (search rules))
+    (at_view c.args.self.now.shape c.args.seat.now.me.0 c.args.row (search rules) (search rules) (search rules) (search rules), place_view c.args.self.now.shape c.args.seat.now.me.0 c.args.row c.args.place c.place.result (search rules) (search rules))
 
 pub returns-clause-sits : goal.returns-clause-sits
-returns-clause-sits g c = ((search rules), sits_still c.args.self.now c.args.seat.now c.store.new.seat (search rules) (search rules) (ap (λ z. z.0.threads) (told g c).0) (ap (λ z. z.0.rows) (told g c).0) (ap (λ z. z.0.offers) (told g c).0) (ap (λ z. z.0.first) (told g c).0) (ap (λ z. z.0.lives) (told g c).0) (ap (λ z. z.0.nacks) (told g c).0) (told g c).1, ap (λ z. z.1) (told g c).0)
+returns-clause-sits g c = ((search rules), sits_still c.args.self.now c.args.seat.now c.store.new.seat (search rules) (search rules) (ap (λ z. z.0.threads) (told g c).0) (ap (λ z. z.0.rows) (told g c).0) (ap (λ z. z.0.layout) (told g c).0) (ap (λ z. z.0.first) (told g c).0) (ap (λ z. z.0.lives) (told g c).0) (ap (λ z. z.0.nacks) (told g c).0) (told g c).1, ap (λ z. z.1) (told g c).0)
 
 pub returns-clause-drafted : goal.returns-clause-drafted
 returns-clause-drafted g c = ap (λ z. z.0) (told g c).0

@@ -1,14 +1,15 @@
-use Rattle.std.proofs.Common.{◌≡◌, ◌*◌, arith}
-use Rattle.protocol.specs.Short.{row_len, short_len}
+use Rattle.std.proofs.Common.{◌≡◌, ◌*◌, ◌∙◌, ap, arith, get_or}
+use Rattle.protocol.specs.Short.{row_len, words_below}
 use Rattle.protocol_ledger.proofs.Short.{short_inside}
 use Rattle.cell_table.proofs.board.Board.place.Goals as goal
 
 pub returns : goal.returns
 returns g c =
-    let shape = c.args.self.now.shape in
+    let b = c.args.self.now in
     let r = c.args.row in
-    let inside = c.requires.0 in
-    let b = short_inside shape.offers shape.rows shape.threads r c.args.place inside.0 inside.1 c.requires.1 in
-    let t : c.from.result * c.thread_len.result ≡ r.thread * short_len shape.offers shape.rows = (λ i. c.from.ensures i * c.thread_len.ensures i) in
-    let u : r.sync * c.row_len.result ≡ r.sync * row_len shape.offers = (λ i. r.sync * c.row_len.ensures i) in
-    (omega (arith, c.from-2.ensures), omega (arith, c.from-2.ensures, c.args.self.now.sized))
+    let few = b.small.1 in
+    let its = c.requires.0.0 in
+    let inside = short_inside b.shape.layout b.shape.threads r c.args.place c.requires.0.0 c.requires.1 c.requires.2 in
+    let start : get_or b.starts c.from.result 0 ≡ words_below b.shape.layout r.thread = ap (λ t. get_or b.starts t 0) c.from.ensures ∙ b.located r.thread (omega arith) in
+    let rows : r.sync * c.row_len.result ≡ r.sync * row_len b.shape.layout.offers = (λ i. r.sync * c.row_len.ensures i) in
+    (omega (arith, c.from-2.ensures), omega (arith, c.from-2.ensures, b.sized))

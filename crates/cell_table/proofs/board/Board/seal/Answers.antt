@@ -21,10 +21,10 @@ store-requires g c = (
 told : (g : _) (c : goal.After-store g)
     → (c.store.new.seat.me ≡ (did (Seal c.args.row) (settled c.args.row (mirrored c.args.other c.args.joined c.args.own) c.args.seat.now.me.0), c.args.seat.now.me.1)) × AgreesWithItself c.store.new.seat.me.0
 told g c = c.store.ensures.2 c.args.row (mirrored c.args.other c.args.joined c.args.own)
-    (at_view c.args.self.now.shape c.args.seat.now.me.0 c.args.row (search rules) (search rules) (search rules), place_view c.args.self.now.shape c.args.seat.now.me.0 c.args.row 0 c.place.result (search rules) (search rules) (search rules)) (search rules) (search rules)
+    (at_view c.args.self.now.shape c.args.seat.now.me.0 c.args.row (search rules) (search rules) (search rules) (search rules), place_view c.args.self.now.shape c.args.seat.now.me.0 c.args.row 0 c.place.result (search rules) (search rules)) (search rules) (search rules)
 
 pub returns-clause-sits : goal.returns-clause-sits
-returns-clause-sits g c = ((search rules), sits_still c.args.self.now c.args.seat.now c.store.new.seat (search rules) (search rules) (ap (λ z. z.0.threads) (told g c).0) (ap (λ z. z.0.rows) (told g c).0) (ap (λ z. z.0.offers) (told g c).0) (ap (λ z. z.0.first) (told g c).0) (ap (λ z. z.0.lives) (told g c).0) (ap (λ z. z.0.nacks) (told g c).0) (told g c).1, ap (λ z. z.1) (told g c).0)
+returns-clause-sits g c = ((search rules), sits_still c.args.self.now c.args.seat.now c.store.new.seat (search rules) (search rules) (ap (λ z. z.0.threads) (told g c).0) (ap (λ z. z.0.rows) (told g c).0) (ap (λ z. z.0.layout) (told g c).0) (ap (λ z. z.0.first) (told g c).0) (ap (λ z. z.0.lives) (told g c).0) (ap (λ z. z.0.nacks) (told g c).0) (told g c).1, ap (λ z. z.1) (told g c).0)
 
 pub returns-clause-sealed : goal.returns-clause-sealed
 returns-clause-sealed g c = ap (λ z. z.0) (told g c).0

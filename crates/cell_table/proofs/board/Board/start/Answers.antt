@@ -5,7 +5,7 @@ use Rattle.cell_table.proofs.board.Board.start.Goals as goal
 
 pub new-requires : goal.new-requires
 new-requires g c =
-    keeps_start g.M.Resident.stands c.args.shape c.args.words.now c.args.slots.items c.requires.slots c.requires.full c.requires.shape.0 c.requires.opening.0 c.requires.shape.1 c.requires.shape.2 c.requires.shape.3 c.requires.shape.4 c.requires.sized c.requires.words
+    keeps_start g.M.Resident.stands c.args.shape c.args.words.now c.args.slots.items c.requires.slots c.requires.full c.requires.shape.0 c.requires.opening.0 c.requires.shape.1 c.requires.shape.2 c.requires.shape.3 c.requires.layout.0 c.requires.sized c.requires.words
 
 pub invariant_of-result : goal.invariant_of-result
 invariant_of-result g c =
@@ -16,9 +16,12 @@ invariant_of-result g c =
     record {
       keyed = (search rules);
       sized = c.in-Ok.ensures.ok.0 ∙ c.requires.sized;
-      lengths = (search rules);
+      row_length = (search rules);
+      located = c.starts.ensures;
+      fits = c.requires.layout.0;
+      first_rows = c.requires.layout.1;
       slots = c.in-Ok.ensures.ok.1 ∙ ap (λ (xs : List (Option g.row.M.Denot)). length xs) c.requires.slots;
       full = λ some_first. machines_full (opening_in c.args.shape) c.args.shape.first.value.items c.requires.full some_first ∙ sym size;
       opens = (opens, sym size, c.requires.opening.1);
-      small = (omega (arith, some, size), omega (arith, few, size), c.requires.shape.1, c.requires.shape.2, c.requires.shape.4);
+      small = (omega (arith, some, size), omega (arith, few, size), c.requires.shape.1, c.requires.shape.2);
     }

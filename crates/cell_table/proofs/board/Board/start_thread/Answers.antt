@@ -39,9 +39,9 @@ returns-clause-sits g c = ⊎_elim
     (λ (e : c.compare_exchange-found.result ≡ course_word Unstarted → ⊥). sits _ ((told g c).1 e).0 refl refl refl refl refl refl)
     (cases_eq c.compare_exchange-found.result (course_word Unstarted))
   where
-    sits : (v : View g.row.M.Denot) → c.compare_exchange-found.new.seat.me ≡ (v, c.args.seat.now.me.1) → v.threads ≡ c.args.seat.now.me.0.threads → v.rows ≡ c.args.seat.now.me.0.rows → v.offers ≡ c.args.seat.now.me.0.offers → v.first ≡ c.args.seat.now.me.0.first
+    sits : (v : View g.row.M.Denot) → c.compare_exchange-found.new.seat.me ≡ (v, c.args.seat.now.me.1) → v.threads ≡ c.args.seat.now.me.0.threads → v.rows ≡ c.args.seat.now.me.0.rows → v.layout ≡ c.args.seat.now.me.0.layout → v.first ≡ c.args.seat.now.me.0.first
         → v.lives ≡ c.args.seat.now.me.0.lives → v.nacks ≡ c.args.seat.now.me.0.nacks → StaysSeated c.args.self.now c.args.seat.now c.compare_exchange-found.new.seat
-    sits v is threads rows wide first lives nacks = ((search rules), sits_still c.args.self.now c.args.seat.now c.compare_exchange-found.new.seat (search rules) (search rules) (ap (λ z. z.0.threads) is ∙ threads) (ap (λ z. z.0.rows) is ∙ rows) (ap (λ z. z.0.offers) is ∙ wide) (ap (λ z. z.0.first) is ∙ first) (ap (λ z. z.0.lives) is ∙ lives) (ap (λ z. z.0.nacks) is ∙ nacks) (told g c).2, ap (λ z. z.1) is)
+    sits v is threads rows wide first lives nacks = ((search rules), sits_still c.args.self.now c.args.seat.now c.compare_exchange-found.new.seat (search rules) (search rules) (ap (λ z. z.0.threads) is ∙ threads) (ap (λ z. z.0.rows) is ∙ rows) (ap (λ z. z.0.layout) is ∙ wide) (ap (λ z. z.0.first) is ∙ first) (ap (λ z. z.0.lives) is ∙ lives) (ap (λ z. z.0.nacks) is ∙ nacks) (told g c).2, ap (λ z. z.1) is)
 
 pub returns-clause-started : goal.returns-clause-started
 returns-clause-started g c made =

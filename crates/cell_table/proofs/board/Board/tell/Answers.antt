@@ -13,7 +13,7 @@ split_seat-told-requires g c =
     let size : c.args.from.now.me.0.threads ≡ c.args.self.now.shape.threads = (search rules) in
     let some = c.args.self.now.small.0 in (
       search rules,
-      subst (λ (n : ℕ). 0 < n) (sym c.args.self.now.sized) (some_words c.args.self.now.shape.offers c.args.self.now.shape.threads c.args.self.now.shape.rows some),
+      subst (λ (n : ℕ). 0 < n) (sym c.args.self.now.sized) (some_words c.args.self.now.shape.layout c.args.self.now.shape.threads some),
       subst (λ (z : Shape g.row.M.Denot). Splits {S = Option g.row.M.Denot} (Keeps g.M.Resident.stands z) c.args.from.now.id c.args.from.now.me.0 c.args.from.now.me.0 (told_pass c.args.from.now.me.0)) (sym c.args.self.now.keyed)
           (tell_allowed g.M.Resident.stands c.args.self.now.shape c.args.from.now.id c.args.from.now.me.0 (omega arith)),
     )
@@ -30,7 +30,7 @@ join_seat-requires g c =
       search rules,
       search rules,
       search rules,
-      subst (λ (n : ℕ). 0 < n) (sym c.args.self.now.sized) (some_words c.args.self.now.shape.offers c.args.self.now.shape.threads c.args.self.now.shape.rows some),
+      subst (λ (n : ℕ). 0 < n) (sym c.args.self.now.sized) (some_words c.args.self.now.shape.layout c.args.self.now.shape.threads some),
       subst (λ (z : Shape g.row.M.Denot). Joins {S = Option g.row.M.Denot} (Keeps g.M.Resident.stands z) c.args.to.now.id c.args.to.now.me.0 c.split_seat-told.result.id c.split_seat-told.result.me.0 (heard_pass c.args.to.now.me.0 c.split_seat-told.result.me.0) spent_pass) (sym c.args.self.now.keyed)
           (hear_allowed g.M.Resident.stands c.args.self.now.shape c.args.to.now.id c.args.to.now.me.0 c.split_seat-told.result.id c.split_seat-told.result.me.0 (omega arith) (omega arith) nothing aside),
     )
