@@ -12,3 +12,4 @@ pub mod Meeting
 pub mod Playing
 pub mod Redrafting
 pub mod Starting
+pub mod Evenness

@@ -7,20 +7,22 @@ use Rattle.protocol_values.specs.declared.Row.{Row}
 use Rattle.protocol_values.specs.declared.Step.{Step}
 use Rattle.protocol_ledger.specs.declared.opening.Life.{Life}
 use Rattle.protocol_ledger.specs.declared.opening.NackState.{NackState}
+use Rattle.protocol_ledger.specs.declared.layout.Layout.{Layout}
 use Rattle.protocol.specs.Openings.{Opening}
+use Rattle.protocol.specs.Short.{HasWords}
 use Rattle.protocol.specs.Standing.{Result, Stands}
 use Rattle.protocol_ledger.specs.declared.resident.Bare.{Bare}
 use Rattle.cell_table.specs.declared.view.Seen.{Seen}
 use Rattle.cell_table.specs.Rule.{IsReady}
-use Rattle.cell_table.specs.Sight.{AreSettled, Coherent, Has, see_begun}
+use Rattle.cell_table.specs.Sight.{AreSettled, Coherent, Has, OpenHaveWords, see_begun}
 
 -- which table it is, its size, and what stood for its threads at first, thread by thread; an empty list in a table of no machines
 pub record GridOf (M : Type 0) : Type 0 where
   pub id : TableId
   pub threads : ℕ
   pub rows : ℕ
-  -- how many offers a row has room for
-  pub offers : ℕ
+  -- for how many offers a row has room, and for how many rows each thread has words: a row that has none is Fresh for good
+  pub layout : Layout
   pub passes : ℕ
   -- from what it goes on: the threads' lives and last stamps, and what became of each nack
   pub lives : List (Life × ℕ)
@@ -50,14 +52,19 @@ Grid = GridOf Bare
 abbrev pub PassView : Type 0
 PassView = PassOf Bare
 
+-- all rows have words
+abbrev pub AllHaveWords : Layout → ℕ → ℕ → Type 0
+AllHaveWords y threads rows = (r : Row) → r.thread < threads → r.sync < rows → HasWords y r
+
 module _ {M : Type 0} where
   -- from what the table goes on
   abbrev pub opening_at : GridOf M → Opening
   opening_at g = record { threads = g.lives; nacks = g.nacks }
 
-  -- the pass is one of this table's, and what it has seen agrees with itself, and with what went before the table
+  -- the pass is one of this table's, and what it has seen agrees with itself, and with what went before the table, and what it saw
+  -- open has words
   abbrev pub IsPassOf : GridOf M → PassOf M → Type 0
-  IsPassOf g p = (p.of.id ≡ g.id) × (p.of.threads ≡ g.threads) × (p.of.rows ≡ g.rows) × (p.of.passes ≡ g.passes) × Coherent g.threads g.rows p.seen × (p.of.first ≡ g.first) × (p.of.lives ≡ g.lives) × (p.of.nacks ≡ g.nacks) × AreSettled (opening_at g) p.seen × (p.of.offers ≡ g.offers)
+  IsPassOf g p = (p.of.id ≡ g.id) × (p.of.threads ≡ g.threads) × (p.of.rows ≡ g.rows) × (p.of.passes ≡ g.passes) × Coherent g.threads g.rows p.seen × (p.of.first ≡ g.first) × (p.of.lives ≡ g.lives) × (p.of.nacks ≡ g.nacks) × AreSettled (opening_at g) p.seen × (p.of.layout ≡ g.layout) × OpenHaveWords g.layout p.seen
 
   -- the pass has the results and the slots that it had
   abbrev pub KeepsResults : PassOf M → PassOf M → Type 0

@@ -1,6 +1,11 @@
 //! The shared table and its passes, as callers use them. A pass is at rest between two calls, which its invariant
 //! says; within a call its seat may stand between a claim and a seal, so what a call does is written over the board
 //! and the seat, in the modules beside this one, and told here again of the pass.
+//!
+//! Invariants:
+//! - A pass that is in no call rests: it has claimed no row.
+//! - `rows` of a pass are the places at which it stands: the rows that it holds, and those behind last rows.
+//! - `spare` has as many words as the table, and `places` of a pass one place for each slot: the end asks for no memory.
 
 ghost use Rattle.std.specs.Prelude.{◌≡◌, ◌≢◌, ◌⊎◌, ◌+◌, ◌<◌, ◌≤◌, ◌∷◌, ◌++◌, [], ℕ, List, None, Some, false, true, IfOk, IfSome, IfNone, SomeIff, IsTrue, ◌↔◌, length, map, slice_get, IsFalse};
 ghost use Rattle.protocol_values.specs.declared.Direction.{Direction};
@@ -43,7 +48,8 @@ ghost use Rattle.cell.specs.Attempts.{
   start_made,
   take_made,
 };
-ghost use Rattle.cell.specs.Calls.{CanFetch, Fetched, HasSteps, Holds, HoldNothing, HoldsAt, IsFollowing, IsHousing, IsNackOf, IsParked, IsPassOf, IsRowOf, IsStandOf, KeepsResults, PassOf, PassView, opening_at};
+ghost use Rattle.protocol.specs.Short.{Fits as IsLayoutFor, HasWords, even, rows_of};
+ghost use Rattle.cell.specs.Calls.{AllHaveWords, CanFetch, Fetched, HasSteps, Holds, HoldNothing, HoldsAt, IsFollowing, IsHousing, IsNackOf, IsParked, IsPassOf, IsRowOf, IsStandOf, KeepsResults, PassOf, PassView, opening_at};
 ghost use Rattle.cell_table.specs.Closings.{HandsOut, HandsOutWaiting, IsHandedOut};
 ghost use Rattle.cell_table.specs.Told.{GoesHome};
 ghost use Rattle.cell_table.specs.Rule.{AreMachines, IsFinishing, IsReady, IsStarting, dealt_from, dealt_rows, falls_to, heard, seen_nothing, told_of};
@@ -86,7 +92,7 @@ use crate::taking::take_row;
 use crate::{nacks, reading};
 use atomic_table::Seat;
 use cell_table::{Board, Shape, View};
-use protocol::{Bare, Ledger, Life, OFFERS, Opening, Resident, next_words};
+use protocol::{Bare, Layout, Ledger, Life, OFFERS, Opening, Resident, next_words};
 use protocol_values::{Cell, Course, Direction, Joined, Message, NackName, NackWord, Offer, Row};
 use std::alloc::{AllocError, Global};
 use std::marker::Model;
@@ -102,13 +108,13 @@ pub struct Cells<M: Resident> {
 
 impl<M: Resident> Model for Cells<M> {
     ghost use Rattle.std.specs.Prelude.{◌≡◌, ◌<◌, ◌≤◌, true, false, length};
-    ghost use Rattle.cell.specs.Calls.{GridOf};
+    ghost use Rattle.cell.specs.Calls.{AllHaveWords, GridOf};
 
     ghost Value = { GridOf M };
 
-    ghost view = { λ c. record { id = c.board.words.shared.table_id; threads = c.board.shape.threads; rows = c.board.shape.rows; offers = c.board.shape.offers; passes = c.board.shape.passes; lives = c.board.shape.opening.value.threads.items; nacks = c.board.shape.opening.value.nacks.items; first = c.board.shape.first.value.items } };
+    ghost view = { λ c. record { id = c.board.words.shared.table_id; threads = c.board.shape.threads; rows = c.board.shape.rows; layout = c.board.shape.layout; passes = c.board.shape.passes; lives = c.board.shape.opening.value.threads.items; nacks = c.board.shape.opening.value.nacks.items; first = c.board.shape.first.value.items } };
 
-    ghost invariant = { λ c. (length c.spare.items ≡ c.board.words.shared.table_id.words) × (0 < length c.board.shape.first.value.items → M.houses ≡ true) × (1 ≤ c.board.shape.rows) × (c.board.shape.threads ≤ 64) };
+    ghost invariant = { λ c. (length c.spare.items ≡ c.board.words.shared.table_id.words) × (0 < length c.board.shape.first.value.items → M.houses ≡ true) × (1 ≤ c.board.shape.rows) × (c.board.shape.threads ≤ 64) × (M.short ≡ false → AllHaveWords c.board.shape.layout c.board.shape.threads c.board.shape.rows) };
 }
 
 /// What a thread calls the table with. It holds rows, and its value is what it has seen.
@@ -129,7 +135,7 @@ impl<M> Model for Pass<M> {
 
     ghost Value = { PassOf M };
 
-    ghost view = { λ p. record { of = record { id = p.seat.table_id; threads = p.seat.me.0.threads; rows = p.seat.me.0.rows; offers = p.seat.me.0.offers; passes = p.seat.me.0.passes; lives = p.seat.me.0.lives; nacks = p.seat.me.0.nacks; first = p.seat.me.0.first }; seen = p.seat.me.0.seen; made = p.seat.me.0.made; results = p.seat.me.0.results; out = p.seat.me.1 } };
+    ghost view = { λ p. record { of = record { id = p.seat.table_id; threads = p.seat.me.0.threads; rows = p.seat.me.0.rows; layout = p.seat.me.0.layout; passes = p.seat.me.0.passes; lives = p.seat.me.0.lives; nacks = p.seat.me.0.nacks; first = p.seat.me.0.first }; seen = p.seat.me.0.seen; made = p.seat.me.0.made; results = p.seat.me.0.results; out = p.seat.me.1 } };
 
     ghost invariant = { λ p. (p.seat.me.0.stage ≡ Resting) × (p.seat.me.0.threads ≡ p.rows.threads) × (p.seat.me.0.rows + 1 ≡ p.rows.rows) × AreFlags p.rows.threads p.rows.rows p.rows.flags.items (places_of p.seat.me.0.rows p.seat.me.0.seen) × (length p.places.items ≡ length p.seat.me.0.first) × HoldNothing p.places.items };
 }
@@ -149,7 +155,7 @@ impl<M> Model for Gatherer<M> {
 
     ghost Value = { GathererOf M };
 
-    ghost view = { λ p. record { pass = record { of = record { id = p.seat.table_id; threads = p.seat.me.0.threads; rows = p.seat.me.0.rows; offers = p.seat.me.0.offers; passes = p.seat.me.0.passes; lives = p.seat.me.0.lives; nacks = p.seat.me.0.nacks; first = p.seat.me.0.first }; seen = p.seat.me.0.seen; made = p.seat.me.0.made; results = p.seat.me.0.results; out = p.seat.me.1 }; gathered = p.seat.me.0.gathered } };
+    ghost view = { λ p. record { pass = record { of = record { id = p.seat.table_id; threads = p.seat.me.0.threads; rows = p.seat.me.0.rows; layout = p.seat.me.0.layout; passes = p.seat.me.0.passes; lives = p.seat.me.0.lives; nacks = p.seat.me.0.nacks; first = p.seat.me.0.first }; seen = p.seat.me.0.seen; made = p.seat.me.0.made; results = p.seat.me.0.results; out = p.seat.me.1 }; gathered = p.seat.me.0.gathered } };
 
     ghost invariant = { λ p. (p.seat.me.0.stage ≡ Resting) × (length p.places.items ≡ length p.seat.me.0.first) × HoldNothing p.places.items };
 }
@@ -194,7 +200,7 @@ impl Cells<Bare> {
         requires rows { (1 ≤ rows) × (rows ≤ 1024) }
         requires passes { (1 ≤ passes) × (passes ≤ 16) }
         ensures size { IfOk result (λ t. (t.0.threads ≡ threads) × (t.0.rows ≡ rows) × (t.0.passes ≡ passes) × (length t.1.items ≡ passes)) }
-        ensures room { IfOk result (λ t. t.0.offers ≡ 8) }
+        ensures room { IfOk result (λ t. t.0.layout.offers ≡ 8) }
         ensures first { IfOk result (λ t. t.0.first ≡ []) }
         ensures opening { IfOk result (λ t. opening_at t.0 ≡ start_opening threads 0) }
         ensures passes { IfOk result (λ t. (number : ℕ) (pass : PassView) → slice_get t.1.items number ≡ Some pass → IsPassOf t.0 pass × (pass.seen ≡ seen_nothing (dealt_rows threads passes number)) × (pass.made ≡ [])) }
@@ -203,8 +209,8 @@ impl Cells<Bare> {
         Cells::new_later(alloc, threads, rows, passes, 0)
     }
 
-    /// The same, but a thread whose bit is set in the mask `later` waits to be started, and no pass holds its
-    /// row 0. Bits of threads that the table has not change nothing.
+    /// A table over no machines in which a thread whose bit is set in the mask `later` waits to be started, and no pass
+    /// holds its row 0. All else is as by `new`. Bits of threads that the table has not change nothing.
     pub fn new_later(
         alloc: Global,
         threads: u8,
@@ -216,7 +222,7 @@ impl Cells<Bare> {
         requires rows { (1 ≤ rows) × (rows ≤ 1024) }
         requires passes { (1 ≤ passes) × (passes ≤ 16) }
         ensures size { IfOk result (λ t. (t.0.threads ≡ threads) × (t.0.rows ≡ rows) × (t.0.passes ≡ passes) × (length t.1.items ≡ passes)) }
-        ensures room { IfOk result (λ t. t.0.offers ≡ 8) }
+        ensures room { IfOk result (λ t. t.0.layout.offers ≡ 8) }
         ensures first { IfOk result (λ t. t.0.first ≡ []) }
         ensures opening { IfOk result (λ t. opening_at t.0 ≡ start_opening threads later) }
         ensures passes { IfOk result (λ t. (number : ℕ) (pass : PassView) → slice_get t.1.items number ≡ Some pass → IsPassOf t.0 pass × (pass.seen ≡ seen_nothing (dealt_from (start_opening threads later) threads passes number)) × (pass.made ≡ [])) }
@@ -225,8 +231,8 @@ impl Cells<Bare> {
         Cells::new_short(alloc, threads, rows, OFFERS as u8, passes, later)
     }
 
-    /// The same of rows that have room for `offers` offers, 0 to 8: a row takes 2 words, and 4 for each offer, where
-    /// those of the other tables take 34.
+    /// A table over no machines whose rows have room for `offers` offers, 0 to 8, and in which the threads of the mask
+    /// `later` wait to be started: a row takes 2 words, and 4 for each offer, where those of the other tables take 34.
     pub fn new_short(
         alloc: Global,
         threads: u8,
@@ -240,14 +246,16 @@ impl Cells<Bare> {
         requires offers { offers ≤ 8 }
         requires passes { (1 ≤ passes) × (passes ≤ 16) }
         ensures size { IfOk result (λ t. (t.0.threads ≡ threads) × (t.0.rows ≡ rows) × (t.0.passes ≡ passes) × (length t.1.items ≡ passes)) }
-        ensures room { IfOk result (λ t. t.0.offers ≡ offers) }
+        ensures layout { IfOk result (λ t. t.0.layout ≡ even offers rows) }
+        ensures room { IfOk result (λ t. t.0.layout.offers ≡ offers) }
         ensures first { IfOk result (λ t. t.0.first ≡ []) }
         ensures opening { IfOk result (λ t. opening_at t.0 ≡ start_opening threads later) }
         ensures passes { IfOk result (λ t. (number : ℕ) (pass : PassView) → slice_get t.1.items number ≡ Some pass → IsPassOf t.0 pass × (pass.seen ≡ seen_nothing (dealt_from (start_opening threads later) threads passes number)) × (pass.made ≡ [])) }
         ensures results { IfOk result (λ t. (number : ℕ) (pass : PassView) → slice_get t.1.items number ≡ Some pass → (pass.results ≡ []) × (pass.out ≡ [])) }
     {
         let opening = Opening::first(alloc, threads, later)?;
-        Cells::over(alloc, &opening, Vec::new(alloc), rows, offers, passes)
+        let layout = Layout::even(usize::from(offers), rows);
+        Cells::next_of(alloc, &opening, Vec::new(alloc), rows, layout, passes)
     }
 }
 
@@ -265,7 +273,7 @@ impl<M: Resident + Drop> Cells<M> {
         requires rows { (1 ≤ rows) × (rows ≤ 1024) }
         requires passes { (1 ≤ passes) × (passes ≤ 16) }
         ensures size { IfOk result (λ t. (t.0.threads ≡ length first.items) × (t.0.rows ≡ rows) × (t.0.passes ≡ passes) × (length t.1.items ≡ passes)) }
-        ensures room { IfOk result (λ t. t.0.offers ≡ 8) }
+        ensures room { IfOk result (λ t. t.0.layout.offers ≡ 8) }
         ensures first { IfOk result (λ t. t.0.first ≡ map Some first.items) }
         ensures opening { IfOk result (λ t. opening_at t.0 ≡ start_opening (length first.items) 0) }
         ensures passes { IfOk result (λ t. (number : ℕ) (pass : PassOf M) → slice_get t.1.items number ≡ Some pass → IsPassOf t.0 pass × (pass.seen ≡ seen_nothing (dealt_rows (length first.items) passes number)) × (pass.made ≡ [])) }
@@ -274,8 +282,8 @@ impl<M: Resident + Drop> Cells<M> {
         Cells::with_machines_later(alloc, first, rows, passes, 0)
     }
 
-    /// The same, but a thread whose bit is set in the mask `later` waits to be started, and no pass holds its row 0.
-    /// Until then its machine lies in its slot. Bits of threads that the table has not change nothing.
+    /// A table of machines in which a thread whose bit is set in the mask `later` waits to be started, and no pass
+    /// holds its row 0. Until then its machine lies in its slot. Bits of threads that the table has not change nothing.
     pub fn with_machines_later(
         alloc: Global,
         first: Vec<M>,
@@ -288,7 +296,7 @@ impl<M: Resident + Drop> Cells<M> {
         requires rows { (1 ≤ rows) × (rows ≤ 1024) }
         requires passes { (1 ≤ passes) × (passes ≤ 16) }
         ensures size { IfOk result (λ t. (t.0.threads ≡ length first.items) × (t.0.rows ≡ rows) × (t.0.passes ≡ passes) × (length t.1.items ≡ passes)) }
-        ensures room { IfOk result (λ t. t.0.offers ≡ 8) }
+        ensures room { IfOk result (λ t. t.0.layout.offers ≡ 8) }
         ensures first { IfOk result (λ t. t.0.first ≡ map Some first.items) }
         ensures opening { IfOk result (λ t. opening_at t.0 ≡ start_opening (length first.items) later) }
         ensures passes { IfOk result (λ t. (number : ℕ) (pass : PassOf M) → slice_get t.1.items number ≡ Some pass → IsPassOf t.0 pass × (pass.seen ≡ seen_nothing (dealt_from (start_opening (length first.items) later) (length first.items) passes number)) × (pass.made ≡ [])) }
@@ -297,8 +305,8 @@ impl<M: Resident + Drop> Cells<M> {
         Cells::with_machines_short(alloc, first, rows, OFFERS as u8, passes, later)
     }
 
-    /// The same of rows that have room for `offers` offers, 0 to 8: a row takes 2 words, and 4 for each offer, where
-    /// those of the other tables take 34.
+    /// A table of machines whose rows have room for `offers` offers, 0 to 8, and in which the threads of the mask
+    /// `later` wait to be started: a row takes 2 words, and 4 for each offer, where those of the other tables take 34.
     pub fn with_machines_short(
         alloc: Global,
         first: Vec<M>,
@@ -313,7 +321,35 @@ impl<M: Resident + Drop> Cells<M> {
         requires offers { offers ≤ 8 }
         requires passes { (1 ≤ passes) × (passes ≤ 16) }
         ensures size { IfOk result (λ t. (t.0.threads ≡ length first.items) × (t.0.rows ≡ rows) × (t.0.passes ≡ passes) × (length t.1.items ≡ passes)) }
-        ensures room { IfOk result (λ t. t.0.offers ≡ offers) }
+        ensures layout { IfOk result (λ t. t.0.layout ≡ even offers rows) }
+        ensures room { IfOk result (λ t. t.0.layout.offers ≡ offers) }
+        ensures first { IfOk result (λ t. t.0.first ≡ map Some first.items) }
+        ensures opening { IfOk result (λ t. opening_at t.0 ≡ start_opening (length first.items) later) }
+        ensures passes { IfOk result (λ t. (number : ℕ) (pass : PassOf M) → slice_get t.1.items number ≡ Some pass → IsPassOf t.0 pass × (pass.seen ≡ seen_nothing (dealt_from (start_opening (length first.items) later) (length first.items) passes number)) × (pass.made ≡ [])) }
+        ensures results { IfOk result (λ t. (number : ℕ) (pass : PassOf M) → slice_get t.1.items number ≡ Some pass → (pass.results ≡ []) × (pass.out ≡ [])) }
+    {
+        let layout = Layout::even(usize::from(offers), rows);
+        Cells::with_machines_of(alloc, first, rows, layout, passes, later)
+    }
+
+    /// The same of a table that is laid out so: each thread has words for one row at least. One that has none for a row is
+    /// not to open it.
+    pub fn with_machines_of(
+        alloc: Global,
+        first: Vec<M>,
+        rows: u16,
+        layout: Layout,
+        passes: u8,
+        later: u64,
+    ) -> Result<(Cells<M>, Vec<Pass<M>>), AllocError>
+        requires housed { M.houses ≡ true }
+        requires threads { (1 ≤ length first.items) × (length first.items ≤ 64) }
+        requires rows { (1 ≤ rows) × (rows ≤ 1024) }
+        requires layout { IsLayoutFor layout rows × ((t : ℕ) → t < length first.items → 1 ≤ rows_of layout t) }
+        requires whole { M.short ≡ false → AllHaveWords layout (length first.items) rows }
+        requires passes { (1 ≤ passes) × (passes ≤ 16) }
+        ensures size { IfOk result (λ t. (t.0.threads ≡ length first.items) × (t.0.rows ≡ rows) × (t.0.passes ≡ passes) × (length t.1.items ≡ passes)) }
+        ensures layout { IfOk result (λ t. t.0.layout ≡ layout) }
         ensures first { IfOk result (λ t. t.0.first ≡ map Some first.items) }
         ensures opening { IfOk result (λ t. opening_at t.0 ≡ start_opening (length first.items) later) }
         ensures passes { IfOk result (λ t. (number : ℕ) (pass : PassOf M) → slice_get t.1.items number ≡ Some pass → IsPassOf t.0 pass × (pass.seen ≡ seen_nothing (dealt_from (start_opening (length first.items) later) (length first.items) passes number)) × (pass.made ≡ [])) }
@@ -321,7 +357,7 @@ impl<M: Resident + Drop> Cells<M> {
     {
         let opening = Opening::first(alloc, first.len() as u8, later)?;
         let slots = slots_of(alloc, first)?;
-        Cells::over(alloc, &opening, slots, rows, offers, passes)
+        Cells::next_of(alloc, &opening, slots, rows, layout, passes)
     }
 
     /// A table that goes on from an opening: row 0 of a thread that runs is held by pass `t mod passes`, that of a thread
@@ -342,16 +378,18 @@ impl<M: Resident + Drop> Cells<M> {
         requires rows { (1 ≤ rows) × (rows ≤ 1024) }
         requires passes { (1 ≤ passes) × (passes ≤ 16) }
         ensures size { IfOk result (λ t. (t.0.threads ≡ length opening.now.threads.items) × (t.0.rows ≡ rows) × (t.0.passes ≡ passes) × (length t.1.items ≡ passes)) }
-        ensures room { IfOk result (λ t. t.0.offers ≡ 8) }
+        ensures room { IfOk result (λ t. t.0.layout.offers ≡ 8) }
         ensures first { IfOk result (λ t. t.0.first ≡ first.items) }
         ensures opening { IfOk result (λ t. opening_at t.0 ≡ opening_of opening.now) }
         ensures passes { IfOk result (λ t. (number : ℕ) (pass : PassOf M) → slice_get t.1.items number ≡ Some pass → IsPassOf t.0 pass × (pass.seen ≡ seen_nothing (dealt_from (opening_of opening.now) (length opening.now.threads.items) passes number)) × (pass.made ≡ [])) }
         ensures results { IfOk result (λ t. (number : ℕ) (pass : PassOf M) → slice_get t.1.items number ≡ Some pass → (pass.results ≡ []) × (pass.out ≡ [])) }
     {
-        Cells::over(alloc, opening, first, rows, OFFERS as u8, passes)
+        let layout = Layout::even(OFFERS, rows);
+        Cells::next_of(alloc, opening, first, rows, layout, passes)
     }
 
-    /// The same of machines alone, of rows that have room for `offers` offers, 0 to 8.
+    /// A table of machines that goes on from an opening, as by `next`, whose rows have room for `offers` offers, 0 to
+    /// 8.
     pub fn next_short(
         alloc: Global,
         opening: &Opening,
@@ -367,13 +405,15 @@ impl<M: Resident + Drop> Cells<M> {
         requires offers { offers ≤ 8 }
         requires passes { (1 ≤ passes) × (passes ≤ 16) }
         ensures size { IfOk result (λ t. (t.0.threads ≡ length opening.now.threads.items) × (t.0.rows ≡ rows) × (t.0.passes ≡ passes) × (length t.1.items ≡ passes)) }
-        ensures room { IfOk result (λ t. t.0.offers ≡ offers) }
+        ensures layout { IfOk result (λ t. t.0.layout ≡ even offers rows) }
+        ensures room { IfOk result (λ t. t.0.layout.offers ≡ offers) }
         ensures first { IfOk result (λ t. t.0.first ≡ first.items) }
         ensures opening { IfOk result (λ t. opening_at t.0 ≡ opening_of opening.now) }
         ensures passes { IfOk result (λ t. (number : ℕ) (pass : PassOf M) → slice_get t.1.items number ≡ Some pass → IsPassOf t.0 pass × (pass.seen ≡ seen_nothing (dealt_from (opening_of opening.now) (length opening.now.threads.items) passes number)) × (pass.made ≡ [])) }
         ensures results { IfOk result (λ t. (number : ℕ) (pass : PassOf M) → slice_get t.1.items number ≡ Some pass → (pass.results ≡ []) × (pass.out ≡ [])) }
     {
-        Cells::over(alloc, opening, first, rows, offers, passes)
+        let layout = Layout::even(usize::from(offers), rows);
+        Cells::next_of(alloc, opening, first, rows, layout, passes)
     }
 
     /// Starts the thread from a place of another thread at which the pass stands: a held row that is Fresh, or the place
@@ -413,23 +453,25 @@ impl<M: Resident + Drop> Cells<M> {
         finish_at(&self.board, &mut pass.seat, row);
     }
 
-    /// A table over these, or over none, that goes on from an opening, of rows that have room for so many offers.
-    fn over(
+    /// A table that goes on from an opening, as by `next`, and is laid out so: each thread has words for one row at least.
+    /// One that has none for a row is not to open it.
+    pub fn next_of(
         alloc: Global,
         opening: &Opening,
         first: Vec<Option<M>>,
         rows: u16,
-        offers: u8,
+        layout: Layout,
         passes: u8,
     ) -> Result<(Cells<M>, Vec<Pass<M>>), AllocError>
         requires housed { 0 < length first.items → M.houses ≡ true }
         requires opening { IsOpening (opening_of opening.now) rows }
         requires machines { AreMachines (opening_of opening.now) first.items }
         requires rows { (1 ≤ rows) × (rows ≤ 1024) }
-        requires offers { offers ≤ 8 }
+        requires layout { IsLayoutFor layout rows × ((t : ℕ) → t < length opening.now.threads.items → 1 ≤ rows_of layout t) }
+        requires whole { M.short ≡ false → AllHaveWords layout (length opening.now.threads.items) rows }
         requires passes { (1 ≤ passes) × (passes ≤ 16) }
         ensures size { IfOk result (λ t. (t.0.threads ≡ length opening.now.threads.items) × (t.0.rows ≡ rows) × (t.0.passes ≡ passes) × (length t.1.items ≡ passes)) }
-        ensures room { IfOk result (λ t. t.0.offers ≡ offers) }
+        ensures layout { IfOk result (λ t. t.0.layout ≡ layout) }
         ensures first { IfOk result (λ t. t.0.first ≡ first.items) }
         ensures opening { IfOk result (λ t. opening_at t.0 ≡ opening_of opening.now) }
         ensures passes { IfOk result (λ t. (number : ℕ) (pass : PassOf M) → slice_get t.1.items number ≡ Some pass → IsPassOf t.0 pass × (pass.seen ≡ seen_nothing (dealt_from (opening_of opening.now) (length opening.now.threads.items) passes number)) × (pass.made ≡ [])) }
@@ -438,13 +480,13 @@ impl<M: Resident + Drop> Cells<M> {
         let shape = Shape {
             threads: opening.threads.len() as u64,
             rows: u64::from(rows),
-            offers: u64::from(offers),
+            layout,
             passes: u64::from(passes),
             opening: Snapshot::of(opening),
             first: Snapshot::of(&first),
         };
         let count = first.len();
-        let spare = next_words(alloc, opening, usize::from(rows), usize::from(offers))?;
+        let spare = next_words(alloc, opening, usize::from(rows), layout)?;
         let (board, mut dealer) = Board::start(
             alloc,
             shape,
@@ -485,8 +527,10 @@ impl<M: Resident + Drop> Cells<M> {
         self.close_with(pass.into_gatherer()).0
     }
 
-    /// The same, and what stands for the threads of which a row is opened that nobody has taken: it offers what that row
-    /// offers. One place for each thread, in a table of machines. What lies in other slots goes with the table.
+    /// Ends the table, by a pass to which others may have left it. The ledger has all that the pass has seen or was
+    /// told. With it goes out what stands for the threads of which a row is opened that nobody has taken: it offers
+    /// what that row offers. One place for each thread, in a table of machines. What lies in other slots goes with the
+    /// table.
     pub(crate) fn close_with(self, by: Gatherer<M>) -> (Ledger, Vec<Option<M>>)
         requires here { IsPassOf self by.pass }
         ensures size { (result.0.threads ≡ self.threads) × (result.0.rows ≡ self.rows) }
@@ -542,7 +586,7 @@ impl<M: Resident> Cells<M> {
 
     /// Whether a row has room for so many offers.
     pub fn has_room(&self, count: usize) -> bool
-        ensures { IsTrue result ↔ count ≤ self.now.offers }
+        ensures { IsTrue result ↔ count ≤ self.now.layout.offers }
     {
         self.board.has_room(count)
     }
@@ -559,6 +603,7 @@ impl<M: Resident> Cells<M> {
     /// was parked for it, and nothing was drafted or bound for it since.
     pub fn open(&self, pass: &mut Pass<M>, row: Row)
         requires here { IsPassOf self.now pass.old × IsRowOf self.now row }
+        requires words { M.short ≡ true → HasWords self.now.layout row }
         requires fresh { Has pass.old.seen.held row × (¬ Has pass.old.seen.opened row) }
         requires alive { ¬ SawEnded pass.old.seen row.thread }
         requires parked { M.houses ≡ true → IsParked M.stands self.now pass.old row }
@@ -572,6 +617,7 @@ impl<M: Resident> Cells<M> {
     }
 
     /// The row's cell.
+    #[inline(always)]
     pub fn look(&self, pass: &mut Pass<M>, row: Row) -> Cell
         requires here { IsPassOf self.now pass.old × IsRowOf self.now row }
         ensures here { IsPassOf self.now pass.new }
@@ -748,10 +794,11 @@ impl<M: Resident> Cells<M> {
     /// before. The rows have room for them.
     pub fn draft(&self, pass: &mut Pass<M>, row: Row, offers: &[Offer])
         requires here { IsPassOf self.now pass.old × IsRowOf self.now row }
+        requires words { M.short ≡ true → HasWords self.now.layout row }
         requires fresh { Has pass.old.seen.held row × (¬ Has pass.old.seen.opened row) }
         requires alive { ¬ SawEnded pass.old.seen row.thread }
         requires offers { AreOffers offers.now }
-        requires room { length offers.now ≤ self.now.offers }
+        requires room { length offers.now ≤ self.now.layout.offers }
         ensures here { IsPassOf self.now pass.new }
         ensures others { Redrafts (λ q p. q ≡ row) pass.old.seen pass.new.seen }
         ensures drafted { IsDraft pass.new.seen row offers.now }

@@ -5,6 +5,7 @@ ghost use Rattle.protocol_values.specs.Words.{IsOfferInRange, atom_of};
 ghost use Rattle.protocol_values.specs.declared.Offer.{Offer};
 ghost use Rattle.cell.specs.Attempts.{OnlyDrafts};
 ghost use Rattle.cell_table.specs.declared.view.Stage.TheVariants.{Resting};
+ghost use Rattle.protocol.specs.Short.{HasWords};
 ghost use Rattle.cell_table.specs.Seats.{Sits, HasRow, StaysSeated};
 ghost use Rattle.cell_table.specs.Sight.{AreOffers, Has, HasDrafted, IsDraft, IsPlaceOf, Redrafts, SawEnded};
 ghost use Rattle.cell_table.specs.Views.{worked};
@@ -24,11 +25,12 @@ pub(crate) fn draft_offers<M: Resident>(
     offers: &[Offer],
 )
     requires sits { Sits board.now seat.old × HasRow board.now row }
+    requires words { HasWords board.now.shape.layout row }
     requires resting { seat.old.me.0.stage ≡ Resting }
     requires held { Has seat.old.me.0.seen.held row × (¬ Has seat.old.me.0.seen.opened row) }
     requires alive { ¬ SawEnded seat.old.me.0.seen row.thread }
     requires offers { AreOffers offers.now }
-    requires room { length offers.now ≤ board.now.shape.offers }
+    requires room { length offers.now ≤ board.now.shape.layout.offers }
     ensures sits { StaysSeated board.now seat.old seat.new }
     ensures stays { seat.new.me.0 ≡ worked seat.old.me.0.stage seat.new.me.0.seen seat.new.me.0.made seat.old.me.0 }
     ensures made { OnlyDrafts row seat.old.me.0.made seat.new.me.0.made }
@@ -50,10 +52,11 @@ fn draft_offer<M: Resident>(
     offer: Offer,
 )
     requires sits { Sits board.now seat.old × HasRow board.now row }
+    requires words { HasWords board.now.shape.layout row }
     requires resting { seat.old.me.0.stage ≡ Resting }
     requires held { Has seat.old.me.0.seen.held row × (¬ Has seat.old.me.0.seen.opened row) }
     requires alive { ¬ SawEnded seat.old.me.0.seen row.thread }
-    requires offer { (n < board.now.shape.offers) × IsOfferInRange offer }
+    requires offer { (n < board.now.shape.layout.offers) × IsOfferInRange offer }
     ensures sits { StaysSeated board.now seat.old seat.new }
     ensures stays { seat.new.me.0 ≡ worked seat.old.me.0.stage seat.new.me.0.seen seat.new.me.0.made seat.old.me.0 }
     ensures made { OnlyDrafts row seat.old.me.0.made seat.new.me.0.made }
@@ -79,10 +82,11 @@ fn draft_atom<M: Resident>(
     has: bool,
 )
     requires sits { Sits board.now seat.old × HasRow board.now row }
+    requires words { HasWords board.now.shape.layout row }
     requires resting { seat.old.me.0.stage ≡ Resting }
     requires held { Has seat.old.me.0.seen.held row × (¬ Has seat.old.me.0.seen.opened row) }
     requires alive { ¬ SawEnded seat.old.me.0.seen row.thread }
-    requires atom { (n < board.now.shape.offers) × (1 ≤ k) × (k < 4) × (is_some (atom_of word) ≡ true) }
+    requires atom { (n < board.now.shape.layout.offers) × (1 ≤ k) × (k < 4) × (is_some (atom_of word) ≡ true) }
     ensures sits { StaysSeated board.now seat.old seat.new }
     ensures stays { seat.new.me.0 ≡ worked seat.old.me.0.stage seat.new.me.0.seen seat.new.me.0.made seat.old.me.0 }
     ensures made { OnlyDrafts row seat.old.me.0.made seat.new.me.0.made }

@@ -81,7 +81,7 @@ fn read_atom<M: Resident>(
     has: bool,
 ) -> u64
     requires sits { Sits board.now seat.old × HasRow board.now row × Has seat.old.me.0.seen.opened row }
-    requires place { (n < board.now.shape.offers) × (1 ≤ k) × (k < 4) }
+    requires place { (n < board.now.shape.layout.offers) × (1 ≤ k) × (k < 4) }
     ensures sits { StaysSeated board.now seat.old seat.new }
     ensures stays { seat.new.me.0 ≡ at_stage seat.old.me.0.stage seat.new.me.0.seen seat.old.me.0 }
     ensures learns { Learns (λ q. q ≡ row) seat.old.me.0.seen seat.new.me.0.seen }
@@ -116,6 +116,7 @@ pub(crate) fn direction_of<M: Resident>(
 }
 
 /// The direction of offer n of a row that was seen opened, where it has one. Its head alone is read.
+#[inline(always)]
 pub(crate) fn opened_direction<M: Resident>(
     board: &Board<M>,
     seat: &mut Seat<Option<M>, View<M>>,

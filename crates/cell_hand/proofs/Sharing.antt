@@ -20,7 +20,7 @@ pub ok_then : {X E : Type 0} {P Q : X → Type 0} (r : Result X E) → ((x : X) 
 ok_then (Ok x) f p = f x p
 ok_then (Err e) f p = p
 
-pub dealt : (threads rows offers later passes : ℕ) (table : Grid) (ps : List PassView) → table.threads ≡ threads → table.rows ≡ rows → table.offers ≡ offers → table.passes ≡ passes
+pub dealt : (threads rows offers later passes : ℕ) (table : Grid) (ps : List PassView) → table.threads ≡ threads → table.rows ≡ rows → table.layout.offers ≡ offers → table.passes ≡ passes
     → ((number : ℕ) (p : PassView) → slice_get ps number ≡ Some p → (p.seen ≡ seen_nothing (dealt_from (start_opening threads later) threads passes number)) × (p.made ≡ []))
     → (hands : List HandOf) → AreHands table ps hands → (number : ℕ) (h : HandOf) → slice_get hands number ≡ Some h → IsDealt threads rows offers later passes number h
 dealt threads rows offers later passes table ps t r o p first hands are number h e =
@@ -29,4 +29,4 @@ dealt threads rows offers later passes table ps t r o p first hands are number h
     let pass : slice_get ps number ≡ Some h.pass =
     subst (λ (l : List PassView). slice_get l number ≡ Some h.pass) are.0 (slice_get-map (λ (k : HandOf). k.pass) hands number ∙ ap (option_map (λ (k : HandOf). k.pass)) e) in
     let what = first number h.pass pass in
-    (ap (λ (g : Grid). g.threads) same ∙ t, ap (λ (g : Grid). g.rows) same ∙ r, ap (λ (g : Grid). g.offers) same ∙ o, ap (λ (g : Grid). g.passes) same ∙ p, what.0, what.1)
+    (ap (λ (g : Grid). g.threads) same ∙ t, ap (λ (g : Grid). g.rows) same ∙ r, ap (λ (g : Grid). g.layout.offers) same ∙ o, ap (λ (g : Grid). g.passes) same ∙ p, what.0, what.1)

@@ -36,7 +36,7 @@ CanDeal threads rows offers passes = (1 ≤ threads) × (threads ≤ 64) × (1 �
 -- `number` of so many
 abbrev pub IsDealt : ℕ → ℕ → ℕ → ℕ → ℕ → ℕ → HandOf → Type 0
 IsDealt threads rows offers later passes number h =
-    (h.table.threads ≡ threads) × (h.table.rows ≡ rows) × (h.table.offers ≡ offers) × (h.table.passes ≡ passes)
+    (h.table.threads ≡ threads) × (h.table.rows ≡ rows) × (h.table.layout.offers ≡ offers) × (h.table.passes ≡ passes)
     × (h.pass.seen ≡ seen_nothing (dealt_from (start_opening threads later) threads passes number)) × (h.pass.made ≡ [])
 
 -- a hand for each of these passes, in their order
@@ -86,11 +86,11 @@ IsDrafted h k r offers =
 
 -- there are more of them than a row has room for: nothing changes
 abbrev pub TooMany : HandOf → HandOf → List Offer → Refusal → Type 0
-TooMany h k offers e = (h.table.offers < length offers) × (k ≡ h) × (e ≡ Range)
+TooMany h k offers e = (h.table.layout.offers < length offers) × (k ≡ h) × (e ≡ Range)
 
 abbrev pub Drafts : HandOf → HandOf → Row → List Offer → Result ⊤ Refusal → Type 0
 Drafts h k r offers (Ok done) =
-    (length offers ≤ h.table.offers) × CanDraft h r × ((looked : HandOf) × Looked h looked × IsDrafted looked k r offers)
+    (length offers ≤ h.table.layout.offers) × CanDraft h r × ((looked : HandOf) × Looked h looked × IsDrafted looked k r offers)
 Drafts h k r offers (Err e) = TooMany h k offers e ⊎ (Looked h k × NotFresh h k r e)
 
 -- bound now, or bound or carried before
@@ -154,7 +154,7 @@ Reaches h k r (Err e) = Looked h k × NotFresh h k r e
 -- it is reached, drafted, opened and searched, one after the other
 abbrev pub Begins : HandOf → HandOf → Row → List Offer → ℕ → Bool → Result (Option Found) Refusal → Type 0
 Begins h k r offers first alone (Ok found) =
-    (length offers ≤ h.table.offers) × (reached : HandOf) × Reaches h reached r (Ok tt) × (drafted : HandOf) × IsDrafted reached drafted r offers
+    (length offers ≤ h.table.layout.offers) × (reached : HandOf) × Reaches h reached r (Ok tt) × (drafted : HandOf) × IsDrafted reached drafted r offers
     × (opened : HandOf) × Made drafted opened (Open r ∷ []) × IsSearched opened k r first alone found
 Begins h k r offers first alone (Err e) = TooMany h k offers e ⊎ (Looked h k × NotFresh h k r e)
 

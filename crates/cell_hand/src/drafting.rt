@@ -25,7 +25,7 @@ impl Hand {
 
     pub(crate) fn write(&mut self, row: Row, offers: &[Offer])
         requires fresh { CanDraft self.old row }
-        requires offers { AreOffers offers.now × (length offers.now ≤ self.old.table.offers) }
+        requires offers { AreOffers offers.now × (length offers.now ≤ self.old.table.layout.offers) }
         ensures { IsDrafted self.old self.new row offers.now }
     {
         self.table.cells.draft(&mut self.pass, row, offers);

@@ -146,8 +146,8 @@ impl Hand {
 
     /// Tests that a row has room for so many offers.
     pub(crate) fn test_room(&self, offers: &[Offer]) -> Result<(), Refusal>
-        ensures room { IfOk result (λ _. length offers.now ≤ self.now.table.offers) }
-        ensures refused { IfErr result (λ e. (self.now.table.offers < length offers.now) × (e ≡ Range)) }
+        ensures room { IfOk result (λ _. length offers.now ≤ self.now.table.layout.offers) }
+        ensures refused { IfErr result (λ e. (self.now.table.layout.offers < length offers.now) × (e ≡ Range)) }
     {
         if !self.table.cells.has_room(offers.len()) {
             return Err(Refusal::Range);

@@ -111,8 +111,8 @@ pub extern "C" fn pcml_search(
     pcml_search_from(alloc, pass, row, NO_THREAD, alone, met)
 }
 
-/// The same, but the newest row of thread `first` is tried before all others. One's own thread, or one that the table has not,
-/// goes before none.
+/// Searches as `pcml_search` does, but the newest row of thread `first` is tried before all others. One's own thread,
+/// or one that the table has not, goes before none.
 #[unsafe(no_mangle)]
 pub extern "C" fn pcml_search_from(
     alloc: Global,
@@ -185,7 +185,8 @@ pub extern "C" fn pcml_begin(
     pcml_begin_from(alloc, pass, row, offers, NO_THREAD, alone, met)
 }
 
-/// The same, but the newest row of thread `first` is tried before all others.
+/// Takes, drafts, opens and searches as `pcml_begin` does, but the newest row of thread `first` is tried before all
+/// others.
 #[unsafe(no_mangle)]
 pub extern "C" fn pcml_begin_from(
     alloc: Global,

@@ -152,7 +152,7 @@ fn look(kept: &mut Kept, row: PlainRow) -> u32
     }
 }
 
-/// The same, and how the row was committed, where it is.
+/// The state of the row, as `pcml_look` answers it, and how the row was committed, where it is.
 #[unsafe(no_mangle)]
 pub extern "C" fn pcml_joined_of(
     alloc: Global,
@@ -300,7 +300,8 @@ fn result(kept: &mut Kept, row: PlainRow, message: &mut PlainMessage) -> u32
     }
 }
 
-/// The same, and how the row was committed.
+/// 0 where the row is committed: the message is what its thread gets, and `joined` is how the row was committed. 1
+/// else.
 #[unsafe(no_mangle)]
 pub extern "C" fn pcml_answer(
     alloc: Global,

@@ -29,7 +29,7 @@ pub extern "C" fn pcml_cells_new(
     pcml_cells_new_short(alloc, threads, rows, 8, later, passes)
 }
 
-/// The same of rows that have room for 1 to 8 offers: a row takes 2 words, and 4 for each.
+/// A table as by `pcml_cells_new`, whose rows have room for 1 to 8 offers: a row takes 2 words, and 4 for each.
 #[unsafe(no_mangle)]
 pub extern "C" fn pcml_cells_new_short(
     alloc: Global,

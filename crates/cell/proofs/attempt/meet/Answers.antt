@@ -12,6 +12,7 @@ use Rattle.protocol.specs.Worlds.{mirrored}
 use Rattle.cell_table.specs.Views.{did, saw, turned}
 use Rattle.cell.proofs.Meeting.{can_join_opened, claim_found, join_found, err_case, learns_met, learns_yield}
 use Rattle.cell.proofs.Learning.{learns_look, learns_wider, lives_wider}
+use Rattle.cell_table.proofs.Truths.{opened_words, read_words}
 use Rattle.cell.proofs.attempt.meet.Goals as goal
 
 unclaimed : (c : Cell) → (c ≡ Fresh) ⊎ ((c ≡ Waiting) ⊎ (((j : Joined) × (c ≡ Synched j)) ⊎ ((j : Joined) × (c ≡ Taken j)))) → c ≢ Claimed
@@ -39,6 +40,23 @@ pub join-requires-clause-can : goal.join-requires-clause-can
 join-requires-clause-can g c =
     let claimed : c.claim.new.seat.me.0 ≡ did (Claim c.args.mine.0) (turned (Claims c.args.mine.0) c.args.mine.0 c.args.seat.now.me.0) = (search rules) in
     (subst (λ (v : View _). CanJoin v.seen c.args.mine.0 c.args.mine.1 c.args.other c.args.joined.own c.args.joined) (sym claimed) (can_join_opened _ _ _ _ _ _ _ c.requires.can.0), c.requires.can.1)
+
+pub claim-requires-clause-words : goal.claim-requires-clause-words
+claim-requires-clause-words g c = opened_words c.args.board.now.shape.layout c.args.seat.now.me.0.seen c.args.mine.0 c.requires.sits.0.9 c.requires.held.1
+
+pub seal-requires-clause-words : goal.seal-requires-clause-words
+seal-requires-clause-words g c = opened_words c.args.board.now.shape.layout c.args.seat.now.me.0.seen c.args.mine.0 c.requires.sits.0.9 c.requires.held.1
+
+pub give_up-requires-clause-words : goal.give_up-requires-clause-words
+give_up-requires-clause-words g c = opened_words c.args.board.now.shape.layout c.args.seat.now.me.0.seen c.args.mine.0 c.requires.sits.0.9 c.requires.held.1
+
+-- of the other row a word was read, so it has words
+pub join-requires-clause-words : goal.join-requires-clause-words
+join-requires-clause-words g c =
+    let claimed : c.claim.new.seat.me.0 ≡ did (Claim c.args.mine.0) (turned (Claims c.args.mine.0) c.args.mine.0 c.args.seat.now.me.0) = (search rules) in
+    let can : CanJoin c.claim.new.seat.me.0.seen c.args.mine.0 c.args.mine.1 c.args.other c.args.joined.own c.args.joined =
+    subst (λ (v : View _). CanJoin v.seen c.args.mine.0 c.args.mine.1 c.args.other c.args.joined.own c.args.joined) (sym claimed) (can_join_opened _ _ _ _ _ _ _ c.requires.can.0) in
+    read_words c.args.board.now.shape.layout c.claim.new.seat.me.0.seen c.args.other 1 can.read_theirs.count c.claim.ensures.sits.1.9 can.read_theirs.counted
 
 pub returns-in-Ok-clause-learns : goal.returns-in-Ok-clause-learns
 returns-in-Ok-clause-learns g c =

@@ -11,7 +11,7 @@ pub draft-requires-clause-place : goal.draft-requires-clause-place
 draft-requires-clause-place g c = (omega arith, omega arith, subst (λ (n : ℕ). is_word_for 1 n ≡ true) (sym c.pack_count.ensures) (count_place _ c.requires.offers.0))
 
 pub draft-requires-clause-few : goal.draft-requires-clause-few
-draft-requires-clause-few g c = λ first. subst (λ (n : ℕ). unwrap_or (count_of n) 0 ≤ c.args.board.now.shape.offers) (sym c.pack_count.ensures) (told_count _ _ c.requires.offers.0 c.requires.room)
+draft-requires-clause-few g c = λ first. subst (λ (n : ℕ). unwrap_or (count_of n) 0 ≤ c.args.board.now.shape.layout.offers) (sym c.pack_count.ensures) (told_count _ _ c.requires.offers.0 c.requires.room)
 
 pub loop-n-init : goal.loop-n-init
 loop-n-init g c =

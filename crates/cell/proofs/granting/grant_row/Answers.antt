@@ -9,6 +9,7 @@ use Rattle.cell.proofs.Learning.{learns_then, learns_nothing}
 use Rattle.cell_table.proofs.Offers.{sees_more}
 use Rattle.cell.proofs.Meeting.{from_none, from_some}
 use Rattle.cell.proofs.Alone.{IsReady, can, given_is, late_is, near_cause, near_offer, ready_more}
+use Rattle.cell_table.proofs.Truths.{opened_words}
 use Rattle.cell.proofs.granting.grant_row.Goals as goal
 use Rattle.cell.proofs.granting.grant_row.Goals.{After-cause_of, After-last_stamp-last}
 
@@ -72,3 +73,9 @@ returns-in-Err-clause-granted g c = (late_is _ _ _ _ c.give.new.seat.me.0 _ _ _ 
 
 pub returns-in-Err-clause-learns : goal.returns-in-Err-clause-learns
 returns-in-Err-clause-learns g c = (late_is _ _ _ _ c.give.new.seat.me.0 _ _ _ _ _ (ready g c.before.before.before.before.before) c.in-Err.field-0 (search rules) (search rules) (search rules) (search rules)).1
+
+pub give-requires-clause-words : goal.give-requires-clause-words
+give-requires-clause-words g c =
+    let some : c.offer_of.result ≡ Some c.in-Some.offer = (search rules) in
+    let opened : Has c.offer_of.new.seat.me.0.seen.opened c.args.row = (search rules) in
+    opened_words c.args.board.now.shape.layout c.offer_of.new.seat.me.0.seen c.args.row c.offer_of.ensures.sits.1.9 opened

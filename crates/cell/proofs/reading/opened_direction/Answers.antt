@@ -7,6 +7,7 @@ use Rattle.cell_table.specs.Sight.{Has}
 use Rattle.cell_table.specs.Views.{read_word}
 use Rattle.cell_table.proofs.Directions.{direction_below, direction_same}
 use Rattle.cell_table.proofs.Offers.{count_and_head, head_place}
+use Rattle.cell_table.proofs.Truths.{opened_words}
 use Rattle.cell.proofs.reading.opened_direction.Goals as goal
 use Rattle.cell.proofs.reading.opened_direction.Goals.{After-read_head}
 
@@ -55,3 +56,9 @@ pub returns-clause-same : goal.returns-clause-same
 returns-clause-same g c d seen =
     ap (λ (x : Direction). Some x)
     (direction_same _ _ c.read-head.new.seat.me.0.seen c.read-head.ensures.sits.1.3 c.args.row c.args.n d c.read-head.result c.read_head.result (words g c).1 c.read_head.ensures seen)
+
+pub read-requires-clause-words : goal.read-requires-clause-words
+read-requires-clause-words g c = opened_words c.args.board.now.shape.layout c.args.seat.now.me.0.seen c.args.row c.requires.0.9 c.requires.2
+
+pub read-head-requires-clause-words : goal.read-head-requires-clause-words
+read-head-requires-clause-words g c = opened_words c.args.board.now.shape.layout c.args.seat.now.me.0.seen c.args.row c.requires.0.9 c.requires.2

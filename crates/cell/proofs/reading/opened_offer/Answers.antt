@@ -2,6 +2,7 @@ use Rattle.std.proofs.Common.{rules, ◌≡◌, ◌+◌, ◌*◌, ◌<◌, None,
 use Rattle.protocol_values.specs.Words.{count_of}
 use Rattle.cell_table.specs.Sight.{Has}
 use Rattle.cell_table.proofs.Offers.{ReadOffer, count_and_head, head_place, offer_words, read_formed, read_have, seen_below, seen_same}
+use Rattle.cell_table.proofs.Truths.{opened_words}
 use Rattle.cell.proofs.reading.opened_offer.Goals as goal
 use Rattle.cell.proofs.reading.opened_offer.Goals.{After-read_atom-third, After-read_offer}
 
@@ -49,3 +50,9 @@ returns-clause-some g c = (is_opened g c, read_have _ c.args.row c.args.n _ _ _ 
 
 pub returns-clause-same : goal.returns-clause-same
 returns-clause-same g c o seen = sym c.read_offer.ensures ∙ seen_same _ _ c.read_atom-third.new.seat.me.0.seen c.args.row c.args.n _ _ _ _ _ o (words g c.before) c.read_atom-third.ensures.sits.1.3 seen
+
+pub read-requires-clause-words : goal.read-requires-clause-words
+read-requires-clause-words g c = opened_words c.args.board.now.shape.layout c.args.seat.now.me.0.seen c.args.row c.requires.0.9 c.requires.2
+
+pub read-head-requires-clause-words : goal.read-head-requires-clause-words
+read-head-requires-clause-words g c = opened_words c.args.board.now.shape.layout c.args.seat.now.me.0.seen c.args.row c.requires.0.9 c.requires.2

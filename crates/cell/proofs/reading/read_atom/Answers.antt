@@ -3,6 +3,7 @@ use Rattle.protocol_values.specs.Words.{atom_of, atom_word}
 use Rattle.cell_table.specs.declared.view.View.{View}
 use Rattle.cell_table.specs.Sight.{Has}
 use Rattle.cell_table.proofs.Offers.{atom_place}
+use Rattle.cell_table.proofs.Truths.{opened_words}
 use Rattle.cell.proofs.reading.read_atom.Goals as goal
 
 -- the atom stands at its place, and the table's words are well-formed
@@ -16,3 +17,6 @@ returns-then-has-clause-atom g c =
 pub returns-else-has-clause-atom : goal.returns-else-has-clause-atom
 unfolding atom_of atom_word
 returns-else-has-clause-atom g c = refl
+
+pub read-requires-clause-words : goal.read-requires-clause-words
+read-requires-clause-words g c = opened_words c.args.board.now.shape.layout c.args.seat.now.me.0.seen c.args.row c.requires.sits.0.9 c.requires.sits.2

@@ -50,3 +50,9 @@ returns-in-Send-clause-learns g c =
     let partner : c.args.joined.partner ≡ Some (c.in_ok-partner.partner, c.in_ok-partner.offer) = (search rules) in
     learns_wider (λ q. q ≡ c.in_ok-partner.partner) (λ q. is_partner c.args.joined.partner q ≡ true) c.args.seat.now.me.0.seen c.offer_of.new.seat.me.0.seen
     (λ q e. ap (λ (p : Option (Row × ℕ)). is_partner p q) partner ∙ ap (row_eq c.in_ok-partner.partner) e ∙ row_eq-refl c.in_ok-partner.partner) c.offer_of.ensures.learns
+
+pub returns-in_err-message-clause-learns : goal.returns-in_err-message-clause-learns
+returns-in_err-message-clause-learns g c =
+    let partner : c.args.joined.partner ≡ Some (c.in_ok-partner.partner, c.in_ok-partner.offer) = (search rules) in
+    learns_wider (λ q. q ≡ c.in_ok-partner.partner) (λ q. is_partner c.args.joined.partner q ≡ true) c.args.seat.now.me.0.seen c.offer_of.new.seat.me.0.seen
+    (λ q e. ap (λ (p : Option (Row × ℕ)). is_partner p q) partner ∙ ap (row_eq c.in_ok-partner.partner) e ∙ row_eq-refl c.in_ok-partner.partner) c.offer_of.ensures.learns

@@ -7,6 +7,7 @@ use Rattle.cell_table.specs.Views.{saw}
 use Rattle.cell.proofs.Learning.{learns_then, learns_look}
 use Rattle.cell.proofs.Alone.{taken_found}
 use Rattle.cell_table.proofs.Standing.{comes_from}
+use Rattle.cell_table.proofs.Truths.{opened_words}
 use Rattle.cell.proofs.taking.take_row.Goals as goal
 
 pub take_committed-requires-clause-range : goal.take_committed-requires-clause-range
@@ -38,3 +39,30 @@ returns-in-Ok-clause-out g c =
           (subst (λ (v : View _). Learns (λ q. q ≡ c.args.row) c.args.seat.now.me.0.seen v.seen) (sym saw_it) (learns_look c.args.row (Synched c.in-Synched.joined) c.args.seat.now.me.0.seen))
           c.look.ensures.sits.2 took.3,
     )
+
+pub returns-in-Ok-clause-some : goal.returns-in-Ok-clause-some
+returns-in-Ok-clause-some g c = record {
+  untaken = search rules;
+  taken = search rules;
+  joined = search rules;
+  held = search rules;
+  drafts = search rules;
+  lasts = search rules;
+  next = search rules;
+  alive = search rules;
+  free = search rules;
+  opened = search rules;
+  words = search rules;
+  joins = search rules;
+  takes = search rules;
+  bound = search rules;
+  carried = search rules;
+  begun = search rules;
+  started = search rules;
+  ended = search rules;
+}
+
+pub take_committed-requires-clause-words : goal.take_committed-requires-clause-words
+take_committed-requires-clause-words g c =
+    let saw_it : c.look.new.seat.me.0 ≡ saw c.args.row (Synched c.in-Synched.joined) c.args.seat.now.me.0 = (search rules) in
+    opened_words c.args.board.now.shape.layout c.look.new.seat.me.0.seen c.args.row c.look.ensures.sits.1.9 (subst (λ (v : View _). Has v.seen.opened c.args.row) (sym saw_it) (inl refl))

@@ -1,6 +1,7 @@
-use Rattle.std.proofs.Common.{◌≡◌, ◌+◌, ◌∙◌, length, sym, subst, ap}
+use Rattle.std.proofs.Common.{rules, ◌≡◌, ◌+◌, ◌∙◌, length, sym, subst, ap}
 use Rattle.cell_table.specs.declared.view.View.{View}
 use Rattle.cell_table.specs.declared.view.Stage.TheVariants.{Resting}
+use Rattle.cell_table.specs.Seats.{Sits}
 use Rattle.cell.specs.declared.cells.Pass.TheInside.{Inside}
 use Rattle.cell.specs.Calls.{HoldNothing}
 use Rattle.cell.specs.Flags.{AreFlags, places_of}
@@ -38,3 +39,10 @@ invariant_of-pass g c =
       inv.4 ∙ ap (λ (v : View _). length v.first) (sym same),
       inv.5,
     )
+
+-- and still sits at its table
+pub lift-requires-clause-sits : goal.lift-requires-clause-sits
+lift-requires-clause-sits g c = elim c.if-row-eq0.branch [
+  | then-row-eq0 w ↦ subst (λ z. Sits c.self.inside.board z.seat) (sym w.pass-inside-is) w.begin.ensures.sits.1
+  | else-row-eq0 w ↦ subst (λ z. Sits c.self.inside.board z.seat) (sym w.pass-inside-is) (search rules)
+]

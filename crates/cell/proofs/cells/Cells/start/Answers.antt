@@ -1,5 +1,5 @@
 use Rattle.std.proofs.Common.{rules, ◌≡◌, ◌+◌, ℕ, length, sym, subst, ap}
-use Rattle.cell_table.specs.Sight.{AreSettled, Coherent}
+use Rattle.cell_table.specs.Sight.{AreSettled, Coherent, OpenHaveWords}
 use Rattle.cell_table.specs.declared.view.Stage.TheVariants.{Resting}
 use Rattle.cell.specs.Flags.{AreFlags, places_of}
 use Rattle.cell.specs.Attempts.{Started}
@@ -30,6 +30,6 @@ invariant_of-pass g c = elim c.if-started.branch [
 
 pub returns-clause-here : goal.returns-clause-here
 returns-clause-here g c = elim c.if-started.branch [
-  | then-started w ↦ subst (λ z. (z.seat.table_id ≡ c.args.self.now.id) × (z.seat.me.0.threads ≡ c.args.self.now.threads) × (z.seat.me.0.rows ≡ c.args.self.now.rows) × (z.seat.me.0.passes ≡ c.args.self.now.passes) × Coherent c.args.self.now.threads c.args.self.now.rows z.seat.me.0.seen × (z.seat.me.0.first ≡ c.args.self.now.first) × (z.seat.me.0.lives ≡ c.args.self.now.lives) × (z.seat.me.0.nacks ≡ c.args.self.now.nacks) × AreSettled (opening_at c.args.self.now) z.seat.me.0.seen × (z.seat.me.0.offers ≡ c.args.self.now.offers)) (sym w.pass-inside-is) (search rules, search rules, search rules, search rules, search rules, search rules, search rules, search rules, subst (λ (grid : GridOf g.row.M.Denot). AreSettled (opening_at grid) c.start_from-started.new.seat.me.0.seen) c.self.view_is c.start_from-started.ensures.sits.1.7, search rules)
-  | else-started w ↦ subst (λ z. (z.seat.table_id ≡ c.args.self.now.id) × (z.seat.me.0.threads ≡ c.args.self.now.threads) × (z.seat.me.0.rows ≡ c.args.self.now.rows) × (z.seat.me.0.passes ≡ c.args.self.now.passes) × Coherent c.args.self.now.threads c.args.self.now.rows z.seat.me.0.seen × (z.seat.me.0.first ≡ c.args.self.now.first) × (z.seat.me.0.lives ≡ c.args.self.now.lives) × (z.seat.me.0.nacks ≡ c.args.self.now.nacks) × AreSettled (opening_at c.args.self.now) z.seat.me.0.seen × (z.seat.me.0.offers ≡ c.args.self.now.offers)) (sym w.pass-inside-is) (search rules, search rules, search rules, search rules, search rules, search rules, search rules, search rules, subst (λ (grid : GridOf g.row.M.Denot). AreSettled (opening_at grid) c.start_from-started.new.seat.me.0.seen) c.self.view_is c.start_from-started.ensures.sits.1.7, search rules)
+  | then-started w ↦ subst (λ z. (z.seat.table_id ≡ c.args.self.now.id) × (z.seat.me.0.threads ≡ c.args.self.now.threads) × (z.seat.me.0.rows ≡ c.args.self.now.rows) × (z.seat.me.0.passes ≡ c.args.self.now.passes) × Coherent c.args.self.now.threads c.args.self.now.rows z.seat.me.0.seen × (z.seat.me.0.first ≡ c.args.self.now.first) × (z.seat.me.0.lives ≡ c.args.self.now.lives) × (z.seat.me.0.nacks ≡ c.args.self.now.nacks) × AreSettled (opening_at c.args.self.now) z.seat.me.0.seen × (z.seat.me.0.layout ≡ c.args.self.now.layout) × OpenHaveWords c.args.self.now.layout z.seat.me.0.seen) (sym w.pass-inside-is) (search rules, search rules, search rules, search rules, search rules, search rules, search rules, search rules, subst (λ (grid : GridOf g.row.M.Denot). AreSettled (opening_at grid) c.start_from-started.new.seat.me.0.seen) c.self.view_is c.start_from-started.ensures.sits.1.7, search rules, search rules)
+  | else-started w ↦ subst (λ z. (z.seat.table_id ≡ c.args.self.now.id) × (z.seat.me.0.threads ≡ c.args.self.now.threads) × (z.seat.me.0.rows ≡ c.args.self.now.rows) × (z.seat.me.0.passes ≡ c.args.self.now.passes) × Coherent c.args.self.now.threads c.args.self.now.rows z.seat.me.0.seen × (z.seat.me.0.first ≡ c.args.self.now.first) × (z.seat.me.0.lives ≡ c.args.self.now.lives) × (z.seat.me.0.nacks ≡ c.args.self.now.nacks) × AreSettled (opening_at c.args.self.now) z.seat.me.0.seen × (z.seat.me.0.layout ≡ c.args.self.now.layout) × OpenHaveWords c.args.self.now.layout z.seat.me.0.seen) (sym w.pass-inside-is) (search rules, search rules, search rules, search rules, search rules, search rules, search rules, search rules, subst (λ (grid : GridOf g.row.M.Denot). AreSettled (opening_at grid) c.start_from-started.new.seat.me.0.seen) c.self.view_is c.start_from-started.ensures.sits.1.7, search rules, search rules)
 ]

@@ -18,5 +18,5 @@ returns-clause-dealt c =
     ok_then c.share.result
     (λ hands are.
     dealt c.args.threads c.args.rows c.args.offers c.args.later c.args.passes table c.in-Ok.passes.items (ap (λ (g : Grid). g.threads) same ∙ size.0) (ap (λ (g : Grid). g.rows) same ∙ size.1)
-    (ap (λ (g : Grid). g.offers) same ∙ c.in-Ok.ensures.room) (ap (λ (g : Grid). g.passes) same ∙ size.2) (λ number p e. let new = c.in-Ok.ensures.passes number p e in (new.1, new.2)) hands.items are)
+    (ap (λ (g : Grid). g.layout.offers) same ∙ c.in-Ok.ensures.room) (ap (λ (g : Grid). g.passes) same ∙ size.2) (λ number p e. let new = c.in-Ok.ensures.passes number p e in (new.1, new.2)) hands.items are)
     c.share.ensures.hands

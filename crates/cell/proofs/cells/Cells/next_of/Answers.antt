@@ -1,12 +1,13 @@
 use Rattle.std.proofs.Common.{rules, ◌≡◌, ℕ, length, ◌++◌, ◌∷◌, [], sym, ap, subst, ◌∙◌}
 use Rattle.protocol.specs.Openings.{opening_of}
 use Rattle.cell_table.specs.declared.view.Shape.{Shape}
-use Rattle.cell.specs.Calls.{PassOf}
+use Rattle.protocol_ledger.specs.declared.layout.Layout.{Layout}
+use Rattle.cell.specs.Calls.{AllHaveWords, PassOf}
 use Rattle.cell_table.specs.Rule.{dealer, dealt_from, dealt_pass, seen_nothing}
-use Rattle.cell_table.specs.Sight.{AreSettled, Coherent}
+use Rattle.cell_table.specs.Sight.{AreSettled, Coherent, OpenHaveWords}
 use Rattle.cell_table.specs.Views.{opening_in}
-use Rattle.cell_table.proofs.Dealing.{each_more, nothing_agrees}
-use Rattle.cell.proofs.cells.Cells.over.Goals as goal
+use Rattle.cell_table.proofs.Dealing.{each_more, nothing_agrees, nothing_open}
+use Rattle.cell.proofs.cells.Cells.next_of.Goals as goal
 
 pub loop-number-preserved : goal.loop-number-preserved
 loop-number-preserved g c =
@@ -15,16 +16,16 @@ loop-number-preserved g c =
     c.deal-seat.ensures.pass.1
     ∙ ap (λ (n : ℕ). (dealt_pass (dealer shape n), [])) (let e : c.from-in-loop-number.result ≡ c.loop-number.number = (search rules) in e) in
     let id : c.deal-seat.result.table_id ≡ c.in_ok-board.board.words.shared.table_id = (search rules) in
-    let pass : PassOf g.row.M.Denot = record { of = record { id = c.deal-seat.result.table_id; threads = c.deal-seat.result.me.0.threads; rows = c.deal-seat.result.me.0.rows; offers = c.deal-seat.result.me.0.offers; passes = c.deal-seat.result.me.0.passes; lives = c.deal-seat.result.me.0.lives; nacks = c.deal-seat.result.me.0.nacks; first = c.deal-seat.result.me.0.first }; seen = c.deal-seat.result.me.0.seen; made = c.deal-seat.result.me.0.made; results = c.deal-seat.result.me.0.results; out = c.deal-seat.result.me.1 } in
+    let pass : PassOf g.row.M.Denot = record { of = record { id = c.deal-seat.result.table_id; threads = c.deal-seat.result.me.0.threads; rows = c.deal-seat.result.me.0.rows; layout = c.deal-seat.result.me.0.layout; passes = c.deal-seat.result.me.0.passes; lives = c.deal-seat.result.me.0.lives; nacks = c.deal-seat.result.me.0.nacks; first = c.deal-seat.result.me.0.first }; seen = c.deal-seat.result.me.0.seen; made = c.deal-seat.result.me.0.made; results = c.deal-seat.result.me.0.results; out = c.deal-seat.result.me.1 } in
     let pushed : c.push.new.self.items ≡ c.loop-number.dealt.items ++ pass ∷ [] = (search rules) in
     record {
       here = (search rules);
       dealer = (search rules);
       passes = (search rules);
       count = (search rules);
-      each = each_more (λ (k : ℕ) (p : PassOf g.row.M.Denot). p ≡ record { of = record { id = c.in_ok-board.board.words.shared.table_id; threads = shape.threads; rows = shape.rows; offers = shape.offers; passes = shape.passes; lives = (opening_in shape).threads; nacks = (opening_in shape).nacks; first = shape.first.value.items }; seen = seen_nothing (dealt_from (opening_in shape) shape.threads shape.passes k); made = []; results = []; out = [] })
+      each = each_more (λ (k : ℕ) (p : PassOf g.row.M.Denot). p ≡ record { of = record { id = c.in_ok-board.board.words.shared.table_id; threads = shape.threads; rows = shape.rows; layout = shape.layout; passes = shape.passes; lives = (opening_in shape).threads; nacks = (opening_in shape).nacks; first = shape.first.value.items }; seen = seen_nothing (dealt_from (opening_in shape) shape.threads shape.passes k); made = []; results = []; out = [] })
           c.loop-number.dealt.items c.push.new.self.items pass c.loop-number.number c.loop-number.invariant.count pushed
-          (λ i. record { of = record { id = id i; threads = (dealt i).0.threads; rows = (dealt i).0.rows; offers = (dealt i).0.offers; passes = (dealt i).0.passes; lives = (dealt i).0.lives; nacks = (dealt i).0.nacks; first = (dealt i).0.first }; seen = (dealt i).0.seen; made = (dealt i).0.made; results = (dealt i).0.results; out = (dealt i).1 })
+          (λ i. record { of = record { id = id i; threads = (dealt i).0.threads; rows = (dealt i).0.rows; layout = (dealt i).0.layout; passes = (dealt i).0.passes; lives = (dealt i).0.lives; nacks = (dealt i).0.nacks; first = (dealt i).0.first }; seen = (dealt i).0.seen; made = (dealt i).0.made; results = (dealt i).0.results; out = (dealt i).1 })
           c.loop-number.invariant.each;
     }
 
@@ -46,7 +47,8 @@ returns-clause-passes g c number pass e =
         ap (λ (p : PassOf g.row.M.Denot). p.of.lives) is,
         ap (λ (p : PassOf g.row.M.Denot). p.of.nacks) is,
         subst (λ (p : PassOf g.row.M.Denot). AreSettled (opening_in shape) p.seen) (sym is) (λ n stamp h. absurd h),
-        ap (λ (p : PassOf g.row.M.Denot). p.of.offers) is,
+        ap (λ (p : PassOf g.row.M.Denot). p.of.layout) is,
+        subst (λ (p : PassOf g.row.M.Denot). OpenHaveWords shape.layout p.seen) (sym is) (nothing_open shape.layout (dealt_from (opening_in shape) shape.threads shape.passes number)),
       ),
       ap (λ (p : PassOf g.row.M.Denot). p.seen) is ∙ (λ i. seen_nothing (dealt_from (opening i) (threads i) (passes i) number)),
       ap (λ (p : PassOf g.row.M.Denot). p.made) is,
@@ -61,4 +63,7 @@ returns-clause-results g c number pass e =
 pub invariant_of-result : goal.invariant_of-result
 invariant_of-result g c =
     let words = c.in_ok-spare.ensures.sized in
-    (words ∙ (search rules), search rules, search rules, search rules)
+    let size : c.in_ok-board.board.shape.threads ≡ length c.args.opening.now.threads.items = (search rules) in
+    let rows : c.in_ok-board.board.shape.rows ≡ c.args.rows = (search rules) in
+    let same : c.in_ok-board.board.shape.layout ≡ c.args.layout = (search rules) in
+    (words ∙ (search rules), search rules, search rules, search rules, λ whole. subst (λ (z : Layout × ℕ × ℕ). AllHaveWords z.0 z.1 z.2) (λ i. (sym same i, sym size i, sym rows i)) (c.requires.whole whole))
