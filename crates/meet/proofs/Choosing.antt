@@ -26,7 +26,7 @@ waits_once meet (OnEnd thread) a b first last = first.1 ∙ sym last.1
 waits_once meet Never a b first last = absurd first
 
 -- and there is such a room
-pub waits_within : (meet : Meet) (d : Direction) (at : ℕ) → length meet.rooms.items ≡ 2 * meet.channels + 2 * meet.threads → WaitsIn meet d at → at < length meet.rooms.items
+pub waits_within : (meet : Meet) (d : Direction) (at : ℕ) → length meet.rooms.items ≡ 2 * meet.channels + meet.nacks + meet.ends → WaitsIn meet d at → at < length meet.rooms.items
 waits_within meet (Send chan atoms) at sized waits = let low = waits.0 in let is = waits.1 in omega arith
 waits_within meet (Recv chan) at sized waits = let low = waits.0 in let is = waits.1 in omega arith
 waits_within meet (OnNack nack) at sized waits = let low = waits.0 in let is = waits.1 in omega arith
@@ -34,7 +34,7 @@ waits_within meet (Always atoms) at sized waits = absurd waits
 waits_within meet (OnEnd thread) at sized waits = let low = waits.0 in let is = waits.1 in omega arith
 waits_within meet Never at sized waits = absurd waits
 
-pub meets_within : (meet : Meet) (d : Direction) (at : ℕ) → length meet.rooms.items ≡ 2 * meet.channels + 2 * meet.threads → MeetsIn meet d at → at < length meet.rooms.items
+pub meets_within : (meet : Meet) (d : Direction) (at : ℕ) → length meet.rooms.items ≡ 2 * meet.channels + meet.nacks + meet.ends → MeetsIn meet d at → at < length meet.rooms.items
 meets_within meet (Send chan atoms) at sized meets = let low = meets.0 in let is = meets.1 in omega arith
 meets_within meet (Recv chan) at sized meets = let low = meets.0 in let is = meets.1 in omega arith
 meets_within meet (OnNack nack) at sized meets = absurd meets
@@ -43,13 +43,13 @@ meets_within meet (OnEnd thread) at sized meets = absurd meets
 meets_within meet Never at sized meets = absurd meets
 
 -- so it is of the room of a nack, and of that of an end
-pub nack_within : (meet : Meet) (thread : ℕ) (room : Option ℕ) → length meet.rooms.items ≡ 2 * meet.channels + 2 * meet.threads
-    → MatchOption room (¬ (thread < meet.threads)) (λ at. (thread < meet.threads) × (at ≡ 2 * meet.channels + thread)) → IfSome room (λ at. at < length meet.rooms.items)
+pub nack_within : (meet : Meet) (thread : ℕ) (room : Option ℕ) → length meet.rooms.items ≡ 2 * meet.channels + meet.nacks + meet.ends
+    → MatchOption room (¬ (thread < meet.nacks)) (λ at. (thread < meet.nacks) × (at ≡ 2 * meet.channels + thread)) → IfSome room (λ at. at < length meet.rooms.items)
 nack_within meet thread None sized is = tt
 nack_within meet thread (Some at) sized is = let low = is.0 in let same = is.1 in omega arith
 
-pub end_within : (meet : Meet) (thread : ℕ) (room : Option ℕ) → length meet.rooms.items ≡ 2 * meet.channels + 2 * meet.threads
-    → MatchOption room (¬ (thread < meet.threads)) (λ at. (thread < meet.threads) × (at ≡ 2 * meet.channels + meet.threads + thread)) → IfSome room (λ at. at < length meet.rooms.items)
+pub end_within : (meet : Meet) (thread : ℕ) (room : Option ℕ) → length meet.rooms.items ≡ 2 * meet.channels + meet.nacks + meet.ends
+    → MatchOption room (¬ (thread < meet.ends)) (λ at. (thread < meet.ends) × (at ≡ 2 * meet.channels + meet.nacks + thread)) → IfSome room (λ at. at < length meet.rooms.items)
 end_within meet thread None sized is = tt
 end_within meet thread (Some at) sized is = let low = is.0 in let same = is.1 in omega arith
 

@@ -27,9 +27,9 @@ Serves (r ∷ rs) (p ∷ ps) = IsLanePassOf r.lane p × Serves rs ps
 abbrev pub EachServes : List Room → List RoomsPass → Type 0
 EachServes rooms all = All (λ (p : RoomsPass). Serves rooms p.passes.items) all
 
--- they are passes of these rooms, of which there are two for each channel and two for each thread
+-- they are passes of these rooms, of which there are two for each channel, and those for nacks and for ends
 abbrev pub IsRoomsPassOf : Meet → RoomsPass → Type 0
-IsRoomsPassOf meet p = Serves meet.rooms.items p.passes.items × (length meet.rooms.items ≡ 2 * meet.channels + 2 * meet.threads)
+IsRoomsPassOf meet p = Serves meet.rooms.items p.passes.items × (length meet.rooms.items ≡ 2 * meet.channels + meet.nacks + meet.ends)
 
 -- it is a pass of these rooms, and of this directory, which has two lanes for each channel that an offer can name
 abbrev pub IsMeetPassOf : Meet → MeetPass → Type 0
@@ -72,14 +72,14 @@ abbrev pub PutsBack : {M : Type 0} → GridOf M → Seen → Seen → ℕ → Ro
 PutsBack g s t at before after = (p : LanePass) → slice_get before.passes.items at ≡ Some p
     → (q : LanePass) × (rest : List Offered) × (after.passes.items ≡ set before.passes.items at q) × Tidies g s t before.in_hand rest × AllJoin p q rest × (after.in_hand ≡ [])
 
--- the room in which an offer in this direction waits: those who send, those who receive, one for each thread's nacks, and one for
--- each thread's end
+-- the room in which an offer in this direction waits: those who send, those who receive, one for a thread's nacks, and one for a
+-- thread's end
 abbrev pub WaitsIn : Meet → Direction → ℕ → Type 0
 WaitsIn meet (Send chan atoms) at = (chan < meet.channels) × (at ≡ chan)
 WaitsIn meet (Recv chan) at = (chan < meet.channels) × (at ≡ meet.channels + chan)
-WaitsIn meet (OnNack nack) at = (nack.thread < meet.threads) × (at ≡ 2 * meet.channels + nack.thread)
+WaitsIn meet (OnNack nack) at = (nack.thread < meet.nacks) × (at ≡ 2 * meet.channels + nack.thread)
 WaitsIn meet (Always atoms) at = ⊥
-WaitsIn meet (OnEnd thread) at = (thread < meet.threads) × (at ≡ 2 * meet.channels + meet.threads + thread)
+WaitsIn meet (OnEnd thread) at = (thread < meet.ends) × (at ≡ 2 * meet.channels + meet.nacks + thread)
 WaitsIn meet Never at = ⊥
 
 -- the room in which those wait whom such an offer can meet

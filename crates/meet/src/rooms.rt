@@ -10,6 +10,7 @@ ghost use Rattle.meet_scan.specs.Steps.{OnlyLooks};
 
 use crate::queue::Queue;
 use cell::{Cells, Pass, Resident};
+use crossbeam_utils::CachePadded;
 use meet_queues::{Lane, LanePass, WaitingOffer};
 use std::alloc::{AllocError, Global};
 use std::sync::Wait;
@@ -18,14 +19,20 @@ use std::sync::atomic::{AtomicU64, AtomicUsize, Ordering};
 /// How long a lane is at least before it is swept.
 const FEW: usize = 64;
 
-/// A lane of offers of one kind, how often entries were taken up from it and given back, and from which length
-/// on it is swept.
+/// How often entries were taken up from a lane and given back, and from which length on it is swept.
 #[derive(Drop)]
-pub(crate) struct Room {
-    pub(crate) lane: Lane,
+struct Counts {
     taken_up: AtomicU64,
     given_back: AtomicU64,
     most: AtomicUsize,
+}
+
+/// A lane of offers of one kind, with its counts. Two rooms have no line of the cache in common, since whoever searches in
+/// one writes there.
+#[derive(Drop)]
+pub(crate) struct Room {
+    pub(crate) lane: Lane,
+    counts: CachePadded<Counts>,
 }
 
 /// One caller's passes of all rooms, and the entries that it has in hand.
@@ -39,27 +46,30 @@ impl Room {
     fn new(lane: Lane) -> Room
         ensures { result.lane ≡ lane }
     {
-        Room {
-            lane,
+        let counts = Counts {
             taken_up: AtomicU64::new(0),
             given_back: AtomicU64::new(0),
             most: AtomicUsize::new(FEW),
+        };
+        Room {
+            lane,
+            counts: CachePadded::new(counts),
         }
     }
 
     /// Tells the others that entries of the lane may be in hand from now on.
     pub(crate) fn take_up(&self) {
-        self.taken_up.fetch_add(1, Ordering::SeqCst);
+        self.counts.taken_up.fetch_add(1, Ordering::SeqCst);
     }
 
     /// Tells the others that what was live of them stands in the lane again.
     pub(crate) fn give_back(&self) {
-        self.given_back.fetch_add(1, Ordering::SeqCst);
+        self.counts.given_back.fetch_add(1, Ordering::SeqCst);
     }
 
     /// How often entries were given back.
     pub(crate) fn returns(&self) -> u64 {
-        self.given_back.load(Ordering::SeqCst)
+        self.counts.given_back.load(Ordering::SeqCst)
     }
 
     /// Whether others may have had entries in hand since so many returns were read: the caller itself took
@@ -67,7 +77,11 @@ impl Room {
     pub(crate) fn was_shared(&self, returns: u64, own: u64) -> bool {
         // Where nobody else had any at a moment in between, as many were given back then as taken up, but
         // for the caller's; neither count falls.
-        self.taken_up.load(Ordering::SeqCst).wrapping_sub(returns) > own
+        self.counts
+            .taken_up
+            .load(Ordering::SeqCst)
+            .wrapping_sub(returns)
+            > own
     }
 
     /// Whether nothing stood in the lane at a moment of the call, nor was in anybody's hand then.
@@ -119,13 +133,14 @@ impl Room {
         requires { IsLanePassOf self.now.lane lane.old }
         ensures { IsLanePassOf self.now.lane lane.new × IsSame lane.old lane.new }
     {
-        !self.lane.is_empty(lane) && self.lane.len(rt, lane) >= self.most.load(Ordering::SeqCst)
+        !self.lane.is_empty(lane)
+            && self.lane.len(rt, lane) >= self.counts.most.load(Ordering::SeqCst)
     }
 
     /// After a sweep that left so many: the lane is swept again when it is twice as long, and some.
     fn note_left(&self, left: usize) {
         let most = left.saturating_mul(2).saturating_add(FEW);
-        self.most.store(most, Ordering::SeqCst);
+        self.counts.most.store(most, Ordering::SeqCst);
     }
 }
 
