@@ -26,9 +26,9 @@ const NACKS: usize = 64;
 /// One place for each number that a nack could have.
 const PLACES: usize = 256;
 
-/// The same as `complete`, of a ledger of these processes, by the machines that are at hand: one that stands after some
-/// of its thread's results is given the rest, and what the ledger tells of its end is not looked for among the
-/// commits. So it costs no replay; a thread of which there is no machine is run from its beginning.
+/// The record of a ledger of these processes, by the machines that are at hand: one that stands after some of its
+/// thread's results is given the rest, and what the ledger tells of its end is not looked for among the commits. So it
+/// costs no replay; a thread of which there is no machine is run from its beginning.
 pub fn conclude(
     alloc: Global,
     processes: &[Proc],
@@ -49,7 +49,7 @@ pub fn conclude(
     conclude_ordered(alloc, processes, rows, commits, &opening, machines)
 }
 
-/// The same of commits in any order which are a run, such as those of several tables one after another: by an opening
+/// The record of commits in any order which are a run, such as those of several tables one after another: by an opening
 /// that tells of the run, and by the machines that are at hand. It puts the commits in order first.
 pub fn conclude_run(
     alloc: Global,
@@ -72,7 +72,8 @@ pub fn conclude_run(
     conclude_ordered(alloc, processes, rows, commits, opening, machines)
 }
 
-/// The same where nothing is known but the commits: each process is run from its beginning.
+/// The record of commits in any order which are a run, where nothing but these is known: each process is run from its
+/// beginning.
 pub fn retrace_run(
     alloc: Global,
     processes: &[Proc],
@@ -132,7 +133,7 @@ fn known_by(
     requires { length machines.items ≤ 64 }
     ensures { IfOk result (λ known. EachKnownBy opening.now.threads.items opening.now.nacks.items machines.items known.items) }
 {
-    let mut known = Vec::new(alloc);
+    let mut known = Vec::with_capacity(alloc, machines.len())?;
     for machine in machines {
         let thread = known.len();
         known.push(Known {

@@ -37,8 +37,8 @@ pub fn replay(
     Ok(state)
 }
 
-/// The same as far as they are a run: where those lead, and how many they are. Behind them stands the first commit with
-/// which they are none.
+/// Adds the commits one after another as far as they are a run: where those lead, and how many they are. Behind them
+/// stands the first commit with which they are none.
 pub fn replay_lawful(
     alloc: Global,
     processes: &[Proc],

@@ -16,10 +16,10 @@ use Rattle.journal_replay.proofs.threads.Threads.gathered.Goals as goal
 pub loop-part-init : goal.loop-part-init
 loop-part-init c = record {
   whole = sym c.into_iter-part-iterator.ensures.into_iter_gives.0;
-  count = ap (λ (xs : List Strand). length xs) c.new-strands.ensures.items;
-  gathered = subst (GatheredSo (map proc_of c.args.processes.now) c.args.known.items) (sym c.new-strands.ensures.items) (gathered-none _ _);
-  trees = subst (TreesSo (map tree_of c.args.processes.now) c.args.known.items) (sym c.new-strands.ensures.items) (trees-none _ _);
-  later = λ quiet t low. absurd (omega (arith, low, ap (λ (xs : List Strand). length xs) c.new-strands.ensures.items));
+  count = ap (λ (xs : List Strand). length xs) c.in_ok-strands.ensures.items;
+  gathered = subst (GatheredSo (map proc_of c.args.processes.now) c.args.known.items) (sym c.in_ok-strands.ensures.items) (gathered-none _ _);
+  trees = subst (TreesSo (map tree_of c.args.processes.now) c.args.known.items) (sym c.in_ok-strands.ensures.items) (trees-none _ _);
+  later = λ quiet t low. absurd (omega (arith, low, ap (λ (xs : List Strand). length xs) c.in_ok-strands.ensures.items));
 }
 
 room : (known yielded rest left : List Known) (part : Known) (have n : ℕ) → known ≡ yielded ++ rest → rest ≡ part ∷ left → have ≡ length yielded → length known ≡ n → have < n
