@@ -28,6 +28,9 @@ use Rattle.journal_order.specs.Ledgers.{ProcessOffers}
 use Rattle.journal_order.proofs.Nacks.{one-sync}
 use Rattle.cell.specs.Attempts.{Bound, BoundBefore}
 use Rattle.cell_table.specs.Told.{IsEarlier}
+use Rattle.protocol_ledger.specs.declared.layout.Layout.{Layout}
+use Rattle.protocol.specs.Short.{even, rows_of}
+use Rattle.protocol_ledger.proofs.Short.{even_rows}
 use Rattle.cell.specs.Calls.{GridOf, Holds, PassOf, opening_at}
 use Rattle.cell_table.specs.declared.view.Seen.{Seen}
 use Rattle.cell_table.specs.Rule.{IsReady}
@@ -36,7 +39,7 @@ use Rattle.runtime_worker.specs.declared.resident.Suspended.{Suspended}
 use Rattle.runtime_worker.proofs.Processes.{new_first, offers_as}
 use Rattle.runtime_worker.proofs.Rising.{after_rises, Rises, rises_below, rises_once}
 use Rattle.runtime_worker.specs.Widths.{AllOfferAtMost}
-use Rattle.runtime_worker.specs.Machines.{AreBound, AreFirst, AreNew, IsNow, IsTable, LeavesOthers, OnlyBinds, StandsFor, doings}
+use Rattle.runtime_worker.specs.Machines.{AreBound, AreFirst, AreNew, IsNow, IsTable, LeavesOthers, OnlyBinds, StandsFor, SyncsHaveWords, doings}
 
 -- WHAT OTHER THREADS ARE LEFT WITH
 
@@ -158,10 +161,17 @@ none_settled threads later n stamp was =
     (cases_lt at (threads * 64)) in
     none-some stamp (sym (ap (λ (s : NackState). carried_by (word_for s)) is) ∙ was)
 
+-- in a table whose threads have words for all rows each sync has
+pub even_words : (cells : GridOf Suspended) (offers rows : ℕ) → cells.layout ≡ even offers rows → cells.rows ≡ rows → length cells.first ≤ 64 → SyncsHaveWords cells
+even_words cells offers rows laid size few t m results os ns stands below =
+    let its : t < length cells.first = slice_get_within cells.first t (Some stands.0.start) stands.0.is_first in
+    let all : rows_of cells.layout t ≡ rows = ap (λ (y : Layout). rows_of y t) laid ∙ even_rows offers rows t (omega arith) in
+    omega arith
+
 -- so a table that begins with new machines is one
-unfoldable pub table_of_first : (cells : GridOf Suspended) (ps : List Proc) (first : List (Option Suspended)) → cells.first ≡ first → AreNew ps first → 1 ≤ length ps → length ps ≤ 64 → IsPlaced ps → AreSpawnedOnce ps → AllOfferAtMost cells.offers ps → (1 ≤ cells.rows) × (cells.rows ≤ 1024)
+unfoldable pub table_of_first : (cells : GridOf Suspended) (ps : List Proc) (first : List (Option Suspended)) → cells.first ≡ first → AreNew ps first → 1 ≤ length ps → length ps ≤ 64 → IsPlaced ps → AreSpawnedOnce ps → AllOfferAtMost cells.layout.offers ps → SyncsHaveWords cells → (1 ≤ cells.rows) × (cells.rows ≤ 1024)
     → (threads later : ℕ) → opening_at cells ≡ start_opening threads later → IsTable cells
-table_of_first cells ps first is are some few placed once narrow rows threads later begins = record {
+table_of_first cells ps first is are some few placed once narrow words rows threads later begins = record {
   rows = rows;
   processes = ps;
   some = some;
@@ -170,6 +180,7 @@ table_of_first cells ps first is are some few placed once narrow rows threads la
   placed = placed;
   once = once;
   narrow = narrow;
+  words = words;
   settled = λ n stamp start low was there. absurd (none_settled threads later n stamp (subst (λ (o : Opening). WasSettled o n stamp) begins was));
 }
 

@@ -11,6 +11,7 @@ use Rattle.script_tree.specs.Trees.{block_of}
 use Rattle.thread.specs.After.{Chosen, after}
 use Rattle.thread.specs.Machines.{HasStopped, IsAfter, IsOpen, Open, Over, Phase, SameProcess, StartsAs, Stuck, Thread}
 use Rattle.thread.specs.Ranges.{BaseIsIn, ResultsAreIn}
+use Rattle.protocol.specs.Short.{rows_of}
 use Rattle.protocol.specs.Standing.{IsLeft, Stands, binding_of}
 use Rattle.protocol.specs.Worlds.{first_row, nack_of_row}
 use Rattle.protocol.specs.Tables.{bound_row}
@@ -94,6 +95,10 @@ pub record IsAtSync (process : Proc) (number : ℕ) (m : Thread) : Type 0 where
 abbrev pub AreFirst : List Proc → List (Option Suspended) → Type 0
 AreFirst ps first = AreOf (λ p t m. StartsAs p t m ⊎ IsAtSync p t m) ps first
 
+-- whoever stands for a thread at a sync for which the table has a row has words for it
+abbrev pub SyncsHaveWords : GridOf Suspended → Type 0
+SyncsHaveWords cells = (t : ℕ) (m : Suspended) (results : List Chosen) (offers : List Offer) (nacks : List ℕ) → StandsFor cells.first m t results offers nacks → length results < cells.rows → length results < rows_of cells.layout t
+
 -- A table of machines, which begins where they stand: of 1 to 1,024 rows for each of the processes.
 pub record IsTable (cells : GridOf Suspended) : Type 0 where
   pub rows : (1 ≤ cells.rows) × (cells.rows ≤ 1024)
@@ -104,7 +109,9 @@ pub record IsTable (cells : GridOf Suspended) : Type 0 where
   pub placed : IsPlaced processes
   pub once : AreSpawnedOnce processes
   -- the table's rows have room for what a sync of these offers
-  pub narrow : AllOfferAtMost cells.offers processes
+  pub narrow : AllOfferAtMost cells.layout.offers processes
+  -- and so have its threads for the syncs that they come to
+  pub words : SyncsHaveWords cells
   -- a nack that was settled before it is a scope's of an earlier sync of its thread
   pub settled : (n : NackName) (stamp : ℕ) (start : Suspended) → n.k < 64 → WasSettled (opening_at cells) n stamp → slice_get cells.first n.thread ≡ Some (Some start)
       → (g : ℕ) × (g < length start.machine.value.results) × HasScopeAt processes n.thread start.machine.value.results n.k g

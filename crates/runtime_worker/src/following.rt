@@ -39,7 +39,8 @@ impl<R: Wait, G: StepGate> Crew<'_, R, G> {
         Ok(())
     }
 
-    /// The same for a row that was committed alone.
+    /// Wakes the rows that wait for nacks which a row enabled that was committed alone. That row is not ready yet, as in
+    /// `follow_pair`.
     #[inline(always)]
     pub(crate) fn follow_alone(
         &self,

@@ -1,6 +1,7 @@
 //! The nacks of the rows that the threads opened last.
 
 use crate::nacks::Nacks;
+use crossbeam_utils::CachePadded;
 use std::alloc::{AllocError, Global};
 use std::sync::atomic::{AtomicBool, Ordering};
 use std::sync::{Mutex, Wait};
@@ -13,10 +14,10 @@ struct Note {
     has_nacks: AtomicBool,
 }
 
-/// A note for each thread.
+/// A note for each thread, on lines of the cache of its own.
 #[derive(Drop)]
 pub struct Notes {
-    notes: Vec<Note>,
+    notes: Vec<CachePadded<Note>>,
 }
 
 impl Notes {
@@ -24,10 +25,10 @@ impl Notes {
     pub fn new(alloc: Global, threads: usize) -> Result<Notes, AllocError> {
         let mut notes = Vec::with_capacity(alloc, threads)?;
         for _ in 0..threads {
-            notes.push(Note {
+            notes.push(CachePadded::new(Note {
                 nacks: Mutex::new(Nacks::none()),
                 has_nacks: AtomicBool::new(false),
-            })?;
+            }))?;
         }
         Ok(Notes { notes })
     }

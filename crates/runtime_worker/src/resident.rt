@@ -15,6 +15,8 @@ impl Resident for Suspended {
 
     ghost houses = { true };
 
+    ghost short = { true };
+
     ghost stands = { doings };
 }
 

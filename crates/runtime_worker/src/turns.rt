@@ -2,6 +2,11 @@
 //! machine has the whole process before it, and enters its first row, which is searched for behind the first turns of
 //! all; a later turn advances a row that is ready, resumes its thread, and enters and searches for the next row. Where a
 //! turn starts other threads, their first turns follow before anything is searched for.
+//!
+//! Invariants:
+//! - A machine is in one place: in its thread's slot, with the worker whose turn it is, or at rest with a worker.
+//! - A row is opened only where its nacks are bound, its offers drafted, and its machine parked: `open` sends that home.
+//! - Nothing is searched for, and nobody woken, while a thread that was started is still to begin, or a row to be opened.
 
 ghost use Rattle.std.specs.Prelude.{◌≡◌, ◌≢◌, ◌≤◌, [], ℕ, Contains, IfOk, IfSome, None, OnOk, length};
 ghost use Rattle.protocol_values.specs.declared.Binding.{Binding};

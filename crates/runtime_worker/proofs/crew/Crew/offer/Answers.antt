@@ -1,10 +1,12 @@
-use Rattle.std.proofs.Common.{rules, ◌≡◌, ◌≤◌, ℕ, List, Option, Some, length, refl, subst, sym}
+use Rattle.std.proofs.Common.{rules, arith, ◌≡◌, ◌≤◌, ◌<◌, ℕ, List, Option, Some, length, refl, subst, sym}
 use Rattle.thread.specs.After.{Chosen}
-use Rattle.thread.specs.Machines.{nacks_in, offers_in}
-use Rattle.cell.specs.Calls.{Holds}
+use Rattle.thread.specs.Machines.{IsOpen, nacks_in, offers_in}
+use Rattle.cell.specs.Calls.{GridOf, Holds}
+use Rattle.protocol.specs.Short.{HasWords}
+use Rattle.protocol_values.specs.declared.Row.{Row}
 use Rattle.cell_table.specs.Rule.{IsReady}
 use Rattle.cell_table.specs.declared.view.Seen.{Seen}
-use Rattle.runtime_worker.specs.Machines.{NamesInRange, doings}
+use Rattle.runtime_worker.specs.Machines.{IsMachineOf, IsTable, NamesInRange, doings}
 use Rattle.runtime_worker.specs.declared.resident.Suspended.{Suspended}
 use Rattle.runtime_worker.proofs.Machines.{open_is, ready}
 use Rattle.runtime_worker.proofs.Ranging.{names_in_range}
@@ -31,8 +33,21 @@ draft-requires-clause-room g c =
     let phase = m.machine.value.phase in
     let table = c.requires.here.2 in
     let offers : offers_in phase ≡ c.offers-2.result.now = (search rules) in
-    subst (λ (l : List Offer). length l ≤ c.args.self.now.cells.now.offers) offers
-    (stands_at_most c.args.self.now.cells.now.offers table.processes c.args.self.now.cells.now.first c.args.place.thread m c.requires.now.earlier (offers_in phase) (nacks_in phase) table.first table.narrow (c.requires.now.machine, open_is phase c.requires.open))
+    subst (λ (l : List Offer). length l ≤ c.args.self.now.cells.now.layout.offers) offers
+    (stands_at_most c.args.self.now.cells.now.layout.offers table.processes c.args.self.now.cells.now.first c.args.place.thread m c.requires.now.earlier (offers_in phase) (nacks_in phase) table.first table.narrow (c.requires.now.machine, open_is phase c.requires.open))
+
+-- and so has its thread for the row
+has_words : (cells : GridOf Suspended) (table : IsTable cells) (r : Row) (m : Suspended) (earlier : List Chosen) → IsMachineOf cells.first m r.thread earlier → IsOpen m.machine.value.phase → length earlier ≡ r.sync → r.sync < cells.rows → HasWords cells.layout r
+has_words cells table r m earlier machine is_open count below =
+    let phase = m.machine.value.phase in
+    let there = table.words r.thread m earlier (offers_in phase) (nacks_in phase) (machine, open_is phase is_open) (omega arith) in
+    omega arith
+
+pub draft-requires-clause-words : goal.draft-requires-clause-words
+draft-requires-clause-words g c = λ short. has_words c.args.self.now.cells.now c.requires.here.2 c.args.place c.args.suspended c.requires.now.earlier c.requires.now.machine c.requires.open c.requires.now.count c.requires.here.1.1
+
+pub open-requires-clause-words : goal.open-requires-clause-words
+open-requires-clause-words g c = λ short. has_words c.args.self.now.cells.now c.requires.here.2 c.args.place c.args.suspended c.requires.now.earlier c.requires.now.machine c.requires.open c.requires.now.count c.requires.here.1.1
 
 pub park-requires-clause-ready : goal.park-requires-clause-ready
 park-requires-clause-ready g c = λ below.
