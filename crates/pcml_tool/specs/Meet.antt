@@ -35,7 +35,7 @@ receive_offer = record { base = Recv 0; scopes = 0 }
 
 -- the pass holds this row, which has room for an offer, and has seen nothing
 abbrev pub IsReady : Grid → PassView → Row → Type 0
-IsReady cells pass row = IsPassOf cells pass × IsRowOf cells row × (pass.seen ≡ seen_nothing (row ∷ [])) × (1 ≤ cells.offers)
+IsReady cells pass row = IsPassOf cells pass × IsRowOf cells row × (pass.seen ≡ seen_nothing (row ∷ [])) × (1 ≤ cells.layout.offers)
 
 -- the pass has opened its row with this one offer
 abbrev pub HasTakenPart : Grid → PassView → Row → Offer → Type 0

@@ -183,7 +183,8 @@ pub(crate) fn why_file<S: Source>(
     told_why_not(alloc, why_not(alloc, &bytes)?)
 }
 
-/// The same in one line that begins with the file's name; nothing, where the text is a script.
+/// Why the text in a file is no script, in one line that begins with the file's name; nothing, where the text is a
+/// script.
 pub(crate) fn why_short_file<S: Source>(
     alloc: Global,
     source: &mut S,

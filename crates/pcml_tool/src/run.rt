@@ -97,7 +97,8 @@ pub fn run_parts<R: Threads + Wait + Sync>(
     }
 }
 
-/// The same of a run in at most so many seasons, of so many rows each: of one that ends for no want of syncs.
+/// What comes of running the script's processes in at most so many seasons, of so many rows each: of a run that ends
+/// for no want of syncs. It waits for its workers.
 pub fn run_seasons_parts<R: Threads + Wait + Sync>(
     rt: &R,
     alloc: Global,

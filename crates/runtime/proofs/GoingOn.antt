@@ -33,7 +33,7 @@ use Rattle.cell_table.specs.Sight.{WasSettled}
 use Rattle.journal_replay.specs.Runs.{IsOffering}
 use Rattle.journal_order.specs.Laws.{HasScopeAt}
 use Rattle.runtime_worker.specs.declared.resident.Suspended.{Suspended}
-use Rattle.runtime_worker.specs.Machines.{AreFirst, AreNew, IsAtSync, IsTable}
+use Rattle.runtime_worker.specs.Machines.{AreFirst, AreNew, IsAtSync, IsTable, SyncsHaveWords}
 use Rattle.runtime_worker.specs.Widths.{AllOfferAtMost}
 use Rattle.runtime_worker.proofs.Machines.{has_scope}
 use Rattle.runtime_worker.proofs.Processes.{process_of}
@@ -391,9 +391,9 @@ next_of ps x closed machines left results lives first ended goes =
     })
 
 -- whose table is one of machines again
-pub table_of_next : (old cells : GridOf Suspended) (ps : List Proc) (o : Opening) (first : List (Option Suspended)) → IsTableOf ps old → NextOf ps o first → AllOfferAtMost cells.offers ps → cells.first ≡ first → opening_at cells ≡ o → (1 ≤ cells.rows) × (cells.rows ≤ 1024) → cells.threads ≡ length o.threads
+pub table_of_next : (old cells : GridOf Suspended) (ps : List Proc) (o : Opening) (first : List (Option Suspended)) → IsTableOf ps old → NextOf ps o first → AllOfferAtMost cells.layout.offers ps → SyncsHaveWords cells → cells.first ≡ first → opening_at cells ≡ o → (1 ≤ cells.rows) × (cells.rows ≤ 1024) → cells.threads ≡ length o.threads
     → length o.nacks ≡ cells.threads * 64 → IsTableOf ps cells
-table_of_next old cells ps o first of next narrow is begins rows threads states = record {
+table_of_next old cells ps o first of next narrow words is begins rows threads states = record {
   table = record {
     rows = rows;
     processes = ps;
@@ -403,6 +403,7 @@ table_of_next old cells ps o first of next narrow is begins rows threads states 
     placed = subst IsPlaced of.processes of.table.placed;
     once = subst AreSpawnedOnce of.processes of.table.once;
     narrow = narrow;
+    words = words;
     settled = λ n stamp start low was there. next.settled n stamp start low (subst (λ (x : Opening). WasSettled x n stamp) begins was) (ap (λ (l : List (Option Suspended)). slice_get l n.thread) (sym is) ∙ there);
   };
   processes = refl;

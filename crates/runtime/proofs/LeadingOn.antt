@@ -54,7 +54,7 @@ use Rattle.runtime.specs.declared.season.ClosedSeason.{ClosedSeason}
 use Rattle.runtime_run.specs.Syncs.{AllSyncAtMost}
 use Rattle.runtime.specs.declared.season.Next.{Next}
 use Rattle.runtime.specs.declared.season.Next.TheVariants as following
-use Rattle.runtime.specs.declared.season.Standing.{Standing}
+use Rattle.runtime.specs.declared.season.AtEnd.{AtEnd}
 use Rattle.runtime.proofs.CatchingUp.{give_in_range}
 use Rattle.runtime.proofs.GoingOn.{contains_at, place_of_commit, stands_first, takes_offered, waited}
 use Rattle.runtime_run.proofs.Ledgers.{acts_as, ends_as}
@@ -482,11 +482,11 @@ module _ (ps : List Proc) (x : ClosedSeason) (closed : IsClosed ps x) where
         )
 
 -- THE END OF A RUN
-pub ends_run : (ps : List Proc) (rows : ℕ) (commits : List Commit) (standing : Option Standing) → EndsRun ps rows commits standing → IsRun ps rows commits
+pub ends_run : (ps : List Proc) (rows : ℕ) (commits : List Commit) (standing : Option AtEnd) → EndsRun ps rows commits standing → IsRun ps rows commits
 ends_run ps rows commits None ends = ends
 ends_run ps rows commits (Some s) ends = ends.0
 
-pub ends_wider : (ps : List Proc) (rows more : ℕ) (commits : List Commit) (standing : Option Standing) → rows ≤ more → EndsRun ps rows commits standing → EndsRun ps more commits standing
+pub ends_wider : (ps : List Proc) (rows more : ℕ) (commits : List Commit) (standing : Option AtEnd) → rows ≤ more → EndsRun ps rows commits standing → EndsRun ps more commits standing
 ends_wider ps rows more commits None wider ends = run-wider ps rows more commits wider ends
 ends_wider ps rows more commits (Some s) wider ends = (run-wider ps rows more commits wider ends.0, ends.1, ends.2)
 

@@ -24,7 +24,7 @@ use Rattle.runtime.specs.declared.season.ClosedSeason.{ClosedSeason}
 use Rattle.runtime.specs.declared.season.Next.{Next}
 use Rattle.runtime.specs.declared.season.Next.TheVariants as next
 use Rattle.runtime.specs.declared.season.Season.{Season}
-use Rattle.runtime.specs.declared.season.Standing.{Standing}
+use Rattle.runtime.specs.declared.season.AtEnd.{AtEnd}
 
 -- of a thread that waits to be started no nack was settled
 abbrev pub NoneSettledWaits : Opening → Type 0
@@ -98,7 +98,7 @@ ClosedRuns trees c = RunTrees trees c.machines.items × RunTrees trees c.resting
 -- WHAT FOLLOWS A SEASON
 
 -- the commits are a run in so many rows; where something is known of their end, the opening tells of it, and the machines have gone part of it
-abbrev pub EndsRun : List Proc → ℕ → List Commit → Option Standing → Type 0
+abbrev pub EndsRun : List Proc → ℕ → List Commit → Option AtEnd → Type 0
 EndsRun ps rows commits None = IsRun ps rows commits
 EndsRun ps rows commits (Some s) = IsRun ps rows commits × TellsRun ps commits (opening_of s.opening) × AreGone ps commits s.machines.items
 
@@ -109,7 +109,7 @@ LeadsTo ps done rows seasons (next.End journal standing) = EndsRun ps ((done + 1
 LeadsTo ps done rows seasons next.Spent = NeedsOneMore ps rows (done + 1) × (seasons ≤ done + 1)
 
 -- the machines that are at hand run these trees
-abbrev pub EndRuns : List Tree → Option Standing → Type 0
+abbrev pub EndRuns : List Tree → Option AtEnd → Type 0
 EndRuns trees None = ⊤
 EndRuns trees (Some s) = RunTrees trees s.machines.items
 

@@ -7,12 +7,12 @@ use Rattle.journal.specs.Records.{CompletesRun}
 use Rattle.journal.specs.declared.record.Record.{Record}
 use Rattle.runtime.specs.Played.{ArePlayedWithin, HasSpent, NeedsOneMore}
 use Rattle.runtime.specs.Season.{EndsRun}
-use Rattle.runtime.specs.declared.season.Standing.{Standing}
+use Rattle.runtime.specs.declared.season.AtEnd.{AtEnd}
 use Rattle.runtime.specs.declared.seasons.SeasonFault.{SeasonFault}
 use Rattle.runtime.specs.declared.seasons.SeasonFault.TheVariants.{Memory, NoWorker, Seasons}
 
 -- The workers' seasons ended: these are their commits, and this is known of where they lead. Or one more was needed than so many.
-abbrev pub EndSeasons : List Proc → ℕ → ℕ → Option (Vec Commit Global × Option Standing) → Type 0
+abbrev pub EndSeasons : List Proc → ℕ → ℕ → Option (Vec Commit Global × Option AtEnd) → Type 0
 EndSeasons ps rows seasons None = NeedsOneMore ps rows seasons
 EndSeasons ps rows seasons (Some (commits, standing)) = EndsRun ps (seasons * rows) commits.items standing × ArePlayedWithin ps rows seasons commits.items
 

@@ -14,7 +14,7 @@ use crate::between::{
 use cell::{Cells, Pass, StepGate};
 use protocol::{Ledger, Opening};
 use protocol_values::Commit;
-use runtime_run::{first_machines, later, offers_used, work_table};
+use runtime_run::{first_machines, later, layout_for, work_table};
 use runtime_worker::{Gate, Halt, Suspended};
 use script::Script;
 use std::alloc::{AllocError, Global};
@@ -59,7 +59,7 @@ pub(crate) struct ClosedSeason {
 
 /// What is known where a run has come to its end, or cannot go on.
 #[derive(Drop)]
-pub(crate) struct Standing {
+pub(crate) struct AtEnd {
     /// What the last ledger told of its end.
     pub(crate) opening: Opening,
     /// The machines that are at hand.
@@ -71,7 +71,7 @@ pub(crate) struct Standing {
 #[derive(Drop)]
 pub(crate) enum Next {
     Season(Season),
-    End(Vec<Commit>, Option<Standing>),
+    End(Vec<Commit>, Option<AtEnd>),
     Spent,
 }
 
@@ -92,11 +92,12 @@ pub(crate) fn first_season(
     let first = first_machines(alloc, processes)?;
     let had = vec![in alloc; 0usize; first.len()]?;
     let resting = none_each(alloc, processes.len())?;
-    let (cells, passes) = Cells::with_machines_short(
+    let layout = layout_for(processes, &had, rows);
+    let (cells, passes) = Cells::with_machines_of(
         alloc,
         first,
         rows,
-        offers_used(processes),
+        layout,
         workers,
         later(processes),
     )?;
@@ -193,7 +194,7 @@ fn end_of(closed: ClosedSeason) -> Next
         ..
     } = closed;
     keep_all(&mut resting, machines);
-    let standing = Standing {
+    let standing = AtEnd {
         opening,
         machines: resting,
     };
@@ -235,8 +236,8 @@ fn next_season(
         nacks,
     };
     let had = counts_of(alloc, &table.first)?;
-    let offers = offers_used(script.processes());
-    let (cells, passes) = Cells::next_short(alloc, &opening, table.first, rows, offers, workers)?;
+    let layout = layout_for(script.processes(), &had, rows);
+    let (cells, passes) = Cells::next_of(alloc, &opening, table.first, rows, layout, workers)?;
     Ok(Next::Season(Season {
         done: done + 1,
         journal,

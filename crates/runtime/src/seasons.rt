@@ -14,7 +14,7 @@ ghost use Rattle.runtime.specs.Season.{EndRuns, EndsRun};
 ghost use Rattle.runtime.specs.Seasons.{EndSeasons, IsHalt, RefusesCommits};
 ghost use Rattle.runtime.specs.declared.seasons.SeasonFault.TheVariants.{Workers, Rows, Seasons, SeasonCount, Lost, Unlawful};
 
-use crate::season::{Next, Standing, first_season, follow, play_season};
+use crate::season::{AtEnd, Next, first_season, follow, play_season};
 use cell::StepGate;
 use journal::{End, Record, conclude_run, retrace_run};
 use protocol_values::Commit;
@@ -61,7 +61,7 @@ fn led_on(
     script: &Script,
     rows: u32,
     commits: Vec<Commit>,
-    standing: Option<Standing>,
+    standing: Option<AtEnd>,
 ) -> Result<Record, AllocError>
     requires rows { rows ≤ most_rows }
     requires run { EndsRun (script_of script.now).processes rows commits.items standing }
@@ -69,7 +69,7 @@ fn led_on(
     ensures trees { IfOk result (λ r. EndRuns (trees_of_script script.now) standing → trees_in r.state ≡ trees_of_script script.now) }
 {
     let processes = script.processes();
-    let Some(Standing { opening, machines }) = standing else {
+    let Some(AtEnd { opening, machines }) = standing else {
         return retrace_run(alloc, processes, rows, commits);
     };
     conclude_run(alloc, processes, rows, commits, &opening, machines)
@@ -85,7 +85,7 @@ pub(crate) fn concluded(
     script: &Script,
     rows: u32,
     commits: Vec<Commit>,
-    standing: Option<Standing>,
+    standing: Option<AtEnd>,
 ) -> Result<Record, SeasonFault>
     requires rows { rows ≤ most_rows }
     requires run { EndsRun (script_of script.now).processes rows commits.items standing }
@@ -157,7 +157,7 @@ fn work_seasons<R: Threads + Wait + Sync, G: Gate + StepGate + Sync>(
     rows: u16,
     seasons: u32,
     gate: &G,
-) -> Result<Option<(Vec<Commit>, Option<Standing>)>, Halt>
+) -> Result<Option<(Vec<Commit>, Option<AtEnd>)>, Halt>
     requires workers { AreWorkers workers }
     requires rows { AreRows rows }
     requires seasons { AreSeasons seasons }
@@ -208,9 +208,9 @@ pub fn run_seasons_gated<R: Threads + Wait + Sync, G: Gate + StepGate + Sync>(
     }
 }
 
-/// The same as `run`, but a run goes on when its rows are spent: however the workers' steps fall, in whichever seasons
-/// these are, the commits in stamp order are a run of the script in sequential CML that can go no further, however many
-/// syncs it may make. No process is spent.
+/// Runs the script as `run` does, and goes on when its rows are spent: however the workers' steps fall, in whichever
+/// seasons these are, the commits in stamp order are a run of the script in sequential CML that can go no further,
+/// however many syncs it may make. No process is spent.
 ///
 /// A season's table has so many rows a process. Where some process has committed all of its own and stands at a
 /// further sync, the table is closed behind its last turn, and the next one begins where the processes stand: of these

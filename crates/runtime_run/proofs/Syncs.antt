@@ -1,5 +1,5 @@
 -- A text comes to no more syncs than its parts together.
-use Rattle.std.proofs.Common.{◌+◌, ◌*◌, ◌<◌, ◌≤◌, ℕ, zero, suc, Bool, true, false, List, [], ◌∷◌, Option, None, Some, Result, Ok, Err, length, slice_get, arith, subst}
+use Rattle.std.proofs.Common.{◌+◌, ◌*◌, ◌<◌, ◌≤◌, ℕ, zero, suc, Bool, true, false, List, [], ◌∷◌, Option, None, Some, Result, Ok, Err, length, slice_get, arith, subst, ◌≡◌}
 use Rattle.std.specs.Prelude.{max, nat_le, if◌then◌else◌}
 use Rattle.script_tree.specs.Trees.{Expr, Event, Sends, Receives, IsReady, IsNever, IsCancelled, IsJoined, Chooses, Wraps, Guards, Nacks, Events, NoMembers, Members, Stmt, Lets, Prints, Syncs, Branches, Loops, Ends, Spawns, Block, Stops, Runs, LoopBody, Test}
 use Rattle.script_tree.specs.declared.tree.Name.{Name}
@@ -197,11 +197,15 @@ members_more a b event others first behind = record {
 }
 
 -- A PROCESS that offers a sync has made fewer
-pub offers_below : (most : ℕ) (ps : List Proc) (t : ℕ) (results : List Chosen) (offers : List Offer) (nacks : List ℕ) → AllSyncAtMost most ps → ProcessOffers ps t results offers nacks → length results < most
-offers_below most ps t results offers nacks few stands =
+pub offers_within : (most : ℕ) (ps : List Proc) (t : ℕ) (results : List Chosen) (offers : List Offer) (nacks : List ℕ) → ((process : Proc) → slice_get ps t ≡ Some process → BlockSyncsAtMost most process.body)
+    → ProcessOffers ps t results offers nacks → length results < most
+offers_within most ps t results offers nacks few stands =
     let o = stands.offered in
     let P : Outcome State → Type 0 = λ x. TakesAtMost (most + 0) (length results) left_in x in
     let s : State = start t (length o.process.variables) results in
-    let body = few t o.process o.is_its in
+    let body = few o.process o.is_its in
     let below : length results < most + 0 = subst P o.offers (takes_then left_in left_in (length results) most 0 (run_block o.process.body s) finished (body.takes s) (λ end. tt)) in
     omega (arith, below)
+
+pub offers_below : (most : ℕ) (ps : List Proc) (t : ℕ) (results : List Chosen) (offers : List Offer) (nacks : List ℕ) → AllSyncAtMost most ps → ProcessOffers ps t results offers nacks → length results < most
+offers_below most ps t results offers nacks few stands = offers_within most ps t results offers nacks (few t) stands

@@ -1,5 +1,5 @@
 -- How many syncs a text comes to at most.
-use Rattle.std.specs.Prelude.{◌≡◌, ⊤, ◌+◌, ◌<◌, ◌≤◌, ℕ, List, [], Some, length, slice_get}
+use Rattle.std.specs.Prelude.{◌≡◌, ⊤, ◌+◌, ◌<◌, ◌≤◌, ℕ, List, [], Some, length, slice_get, slice_index}
 use Rattle.script_tree.specs.Processes.{Proc}
 use Rattle.script_tree.specs.Trees.{Block, Event, Events, LoopBody, Stmt}
 use Rattle.thread.specs.After.{Chosen, Formed, Goes, Offers, Outcome, State, Wrapping, ◌>>=◌, resolve, resolve_all, run_block, run_stmt, synced}
@@ -38,3 +38,10 @@ pub record MembersSyncAtMost (most : ℕ) (members : Events) : Type 0 where
 -- Each process of these, wherever it offers a sync, has made fewer than so many.
 abbrev pub AllSyncAtMost : ℕ → List Proc → Type 0
 AllSyncAtMost most processes = (t : ℕ) (process : Proc) → slice_get processes t ≡ Some process → BlockSyncsAtMost most process.body
+
+-- So many rows for each process of these, which has made so many syncs before: one at least, and no more than are stated. Where they
+-- are fewer, the process makes no more syncs.
+pub record AreRowsFor (processes : List Proc) (had : List ℕ) (stated : ℕ) (rows : List ℕ) : Type 0 where
+  pub some : (t : ℕ) → t < 64 → 1 ≤ slice_index rows t
+  pub few : (t : ℕ) → slice_index rows t ≤ stated
+  pub enough : (t : ℕ) (process : Proc) → slice_get processes t ≡ Some process → slice_index rows t < stated → BlockSyncsAtMost (slice_index had t + slice_index rows t) process.body

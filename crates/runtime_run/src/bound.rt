@@ -1,25 +1,28 @@
 //! How many rows a table needs, and for how many offers a row needs room.
 //!
 //! A thread's syncs take its rows one after another, those in the blocks of its guards and nacks too. So a
-//! thread uses no more rows than its process comes to syncs, and the longest process says how large the
-//! table is to be. What is counted is a bound: of a branch the side with more syncs, of a block also what
+//! thread uses no more rows than its process comes to syncs: for so many it has words. The longest process says how
+//! many rows the table has. What is counted is a bound: of a branch the side with more syncs, of a block also what
 //! stands behind an `end`.
 //!
 //! So no process makes more syncs than are counted, unless the count is 4294967295, which says nothing. On this hangs when
-//! a run asks for more seasons: a table that has fewer rows than are stated is never spent. Of a row that the table has not
-//! the workers open none, and what a thread offers behind its last row its machine tells.
+//! a run asks for more seasons: a table that has fewer rows than are stated is never spent. And on it hangs that each row
+//! that a worker opens has words. Of a row that the table has not the workers open none, and what a thread offers behind
+//! its last row its machine tells.
 //!
 //! A sync makes an offer for each base event of its event, and how many these are the text says. So the offers are
 //! counted exactly: the most that some sync makes, also one in the body of a guard or a nack. On this a promise
 //! does hang: a row has to have room for all that a machine offers at once.
 
-ghost use Rattle.std.specs.Prelude.{◌≡◌, ◌<◌, ◌≤◌, ◌↔◌, ℕ, map};
+ghost use Rattle.std.specs.Prelude.{◌≡◌, ◌+◌, ◌<◌, ◌≤◌, ◌↔◌, ℕ, length, map, slice_index};
+ghost use Rattle.protocol.specs.Short.{Fits as IsLayoutFor};
 ghost use Rattle.script_tree.specs.Limits.{base_count};
 ghost use Rattle.script_tree.specs.Processes.{proc_of};
 ghost use Rattle.script_tree.specs.Trees.{block_of, event_of, stmt_of, turn_of};
-ghost use Rattle.runtime_run.specs.Syncs.{AllSyncAtMost, BlockSyncsAtMost, EventSyncsAtMost, StmtSyncsAtMost, TurnSyncsAtMost};
+ghost use Rattle.runtime_run.specs.Syncs.{AllSyncAtMost, AreRowsFor, BlockSyncsAtMost, EventSyncsAtMost, StmtSyncsAtMost, TurnSyncsAtMost};
 ghost use Rattle.runtime_worker.specs.Widths.{AllOfferAtMost, BodiesOfferAtMost, OffersAtMost, StmtOffersAtMost, TurnOffersAtMost};
 
+use protocol::Layout;
 use script_tree::{Block, Event, Events, LoopBody, Proc, Stmt};
 
 /// The syncs of the statements.
@@ -96,6 +99,43 @@ pub fn rows_used(processes: &[Proc], stated: u16) -> u16
         most = most.max(block_syncs(process.body()));
     }
     most.clamp(1, u32::from(stated)) as u16
+}
+
+/// As many rows as the process can use that has made so many syncs before, one at least, and no more than are stated.
+fn rows_for(process: &Proc, had: usize, stated: u16) -> u16
+    requires { 1 ≤ stated }
+    ensures range { (1 ≤ result) × (result ≤ stated) }
+    ensures enough { result < stated → BlockSyncsAtMost (had + result) (proc_of process.now).body }
+{
+    let most = block_syncs(process.body());
+    if most == u32::MAX {
+        return stated;
+    }
+    let left = (most as usize).saturating_sub(had);
+    left.clamp(1, usize::from(stated)) as u16
+}
+
+/// How many syncs the thread made before: none where the list is too short.
+fn made_before(had: &[usize], thread: usize) -> usize
+    ensures { result ≡ slice_index had.now thread }
+{
+    match had.get(thread) {
+        Some(count) => *count,
+        None => 0,
+    }
+}
+
+/// As many rows as each process can use that has made so many syncs before, and no more than are stated.
+pub fn rows_each(processes: &[Proc], had: &[usize], stated: u16) -> [u16; 64]
+    requires stated { 1 ≤ stated }
+    requires few { length processes.now ≤ 64 }
+    ensures { AreRowsFor (map proc_of processes.now) had.now stated result }
+{
+    let mut rows = [stated; 64];
+    for (thread, process) in processes.iter().enumerate() {
+        rows[thread] = rows_for(process, made_before(had, thread), stated);
+    }
+    rows
 }
 
 /// The base events of an event: a sync on it offers each.
@@ -204,4 +244,19 @@ pub fn offers_used(processes: &[Proc]) -> u8
         most = most.max(block_offers(process.body()));
     }
     most
+}
+
+/// How a table of so many rows is laid out for processes that have made so many syncs before: its rows have room for what a
+/// sync offers, and each thread has words for as many syncs as it may still make.
+pub fn layout_for(processes: &[Proc], had: &[usize], rows: u16) -> Layout
+    requires rows { 1 ≤ rows }
+    requires few { length processes.now ≤ 64 }
+    ensures room { AllOfferAtMost result.offers (map proc_of processes.now) }
+    ensures words { AreRowsFor (map proc_of processes.now) had.now rows result.lens }
+    ensures fits { IsLayoutFor result rows }
+{
+    Layout {
+        offers: usize::from(offers_used(processes)),
+        lens: rows_each(processes, had, rows),
+    }
 }

@@ -6,9 +6,10 @@ mod fault;
 mod gate;
 mod leaving;
 mod running;
+mod waits;
 mod workers;
 
-pub use crate::bound::{offers_used, rows_used};
+pub use crate::bound::{layout_for, offers_used, rows_each, rows_used};
 pub use crate::fault::RunFault;
 pub use crate::gate::{OpenGate, TurnsOnly};
 pub use crate::running::{

@@ -21,10 +21,11 @@ ghost use Rattle.runtime_worker.specs.Workers.{IsNewPassOf};
 ghost use Rattle.runtime_run.specs.Machines.{AreLeftBy, MarksSpawned, machine_in};
 ghost use Rattle.runtime_run.specs.declared.fault.RunFault.TheVariants.{Workers, Rows};
 
-use crate::bound::{offers_used, rows_used};
+use crate::bound::{layout_for, rows_used};
 use crate::fault::RunFault;
 use crate::gate::TurnsOnly;
 use crate::leaving::machines_of;
+use crate::waits::waits_of;
 use crate::workers::{all_work, parted, workers_of};
 use cell::{Cells, Pass, StepGate};
 use journal::{Record, conclude};
@@ -113,7 +114,11 @@ pub fn work_table<R: Threads + Wait + Sync, G: Gate + StepGate + Sync>(
     ensures machines { IfOk result (λ o. AreLeftBy cells.first o.0 o.1.items) }
 {
     let threads = script.processes().len() as u8;
-    let (meet, lanes) = Meet::new(alloc, script.channels() as u16, threads, workers)?;
+    let waits = waits_of(script.processes());
+    let nacks = if waits.nacks { threads } else { 0 };
+    let ends_of = if waits.ends { threads } else { 0 };
+    let channels = script.channels() as u16;
+    let (meet, lanes) = Meet::with_rooms(alloc, channels, nacks, ends_of, workers)?;
     let (ready, ends) = Ready::new(alloc, workers)?;
     let shared = Shared {
         alloc,
@@ -141,7 +146,8 @@ pub fn work_table<R: Threads + Wait + Sync, G: Gate + StepGate + Sync>(
 }
 
 /// The workers over a table of their own, and the machines as they leave them. The table has no more rows than the
-/// processes can use, and its rows have room for no more offers. Each of its rows was opened as its process offers there.
+/// processes can use, its threads have words for no more than each can use, and its rows have room for no more offers. Each
+/// of its rows was opened as its process offers there.
 fn work_within<R: Threads + Wait + Sync, G: Gate + StepGate + Sync>(
     rt: &R,
     alloc: Global,
@@ -161,11 +167,12 @@ fn work_within<R: Threads + Wait + Sync, G: Gate + StepGate + Sync>(
     let processes = script.processes();
     let first = first_machines(alloc, processes)?;
     let used = rows_used(processes, rows);
-    let (cells, passes) = Cells::with_machines_short(
+    let layout = layout_for(processes, &[], used);
+    let (cells, passes) = Cells::with_machines_of(
         alloc,
         first,
         used,
-        offers_used(processes),
+        layout,
         workers,
         later(processes),
     )?;

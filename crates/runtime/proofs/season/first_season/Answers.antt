@@ -1,4 +1,4 @@
-use Rattle.std.proofs.Common.{rules, ◌≡◌, ◌≤◌, ◌*◌, ◌∙◌, ℕ, List, [], Option, Some, ap, arith, get_or, length, map, refl, replicate, subst, sym}
+use Rattle.std.proofs.Common.{rules, ◌≡◌, ◌≤◌, ◌*◌, ◌∙◌, ℕ, List, [], Option, Some, ap, arith, get_or, length, map, refl, replicate, subst, sym, true≢false}
 use Rattle.std.proofs.lemmas.List.{length-map}
 use Rattle.std.proofs.lemmas.Option.{slice_get-get_or}
 use Rattle.script_tree.specs.Processes.{Proc, proc_of, tree_of}
@@ -13,6 +13,10 @@ use Rattle.runtime_worker.specs.declared.resident.Suspended.{Suspended}
 use Rattle.runtime_worker.specs.Machines.{AreNew, IsTable}
 use Rattle.runtime_worker.specs.Widths.{AllOfferAtMost}
 use Rattle.runtime_worker.proofs.Machines.{none_settled, table_of_first}
+use Rattle.runtime_worker.proofs.Processes.{new_first}
+use Rattle.protocol_ledger.specs.declared.layout.Layout.{Layout}
+use Rattle.runtime_run.specs.Syncs.{AreRowsFor}
+use Rattle.runtime_run.proofs.Rows.{each_has_words}
 use Rattle.runtime.specs.Between.{AreHad}
 use Rattle.runtime.specs.Played.{ArePlayed, NoSeason}
 use Rattle.runtime.specs.Season.{IsSeason}
@@ -29,6 +33,17 @@ use Rattle.journal_order.specs.Behind.{TellsRun}
 use Rattle.runtime.specs.declared.season.Season.{Season}
 use Rattle.runtime_run.proofs.Ledgers.{tells_first}
 use Rattle.runtime.proofs.season.first_season.Goals as goal
+
+pub with_machines_of-requires-clause-layout : goal.with_machines_of-requires-clause-layout
+with_machines_of-requires-clause-layout c =
+    let ps : List Proc = map proc_of c.processes-processes.result.now in
+    let few : length (map proc_of c.processes-processes.result.now) ≤ 64 = (search rules) in
+    let new : AreNew ps (map Some c.in_ok-first.first.items) = c.in_ok-first.ensures.new in
+    let size : length c.in_ok-first.first.items ≡ length ps = sym (length-map c.in_ok-first.first.items Some) ∙ new.0 in
+    (c.layout_for-layout.ensures.fits, λ t below. c.layout_for-layout.ensures.words.some t (omega (arith, below, size, few)))
+
+pub with_machines_of-requires-clause-whole : goal.with_machines_of-requires-clause-whole
+with_machines_of-requires-clause-whole c = λ whole. absurd (true≢false whole)
 
 pub returns-clause-trees : goal.returns-clause-trees
 returns-clause-trees c =
@@ -47,11 +62,16 @@ returns-clause-season c =
     let some : 1 ≤ length ps = subst (λ (qs : List Proc). 1 ≤ length qs) (sym value) c.requires.some in
     let few : length (map proc_of c.processes-processes.result.now) ≤ 64 = (search rules) in
     let rows : (1 ≤ c.in_ok-cells.cells.rows) × (c.in_ok-cells.cells.rows ≤ 1024) = (search rules) in
-    let table : IsTable cells = table_of_first cells ps (map Some c.in_ok-first.first.items) is c.in_ok-first.ensures.new some few c.processes-processes.ensures.placed
-    (subst AreSpawnedOnce (sym value) c.processes-processes.ensures.limits.once)
-    (subst (λ (n : ℕ). AllOfferAtMost n ps) (sym c.in_ok-cells.ensures.room) c.offers_used.ensures.enough) rows (length c.in_ok-first.first.items) c.later.result c.in_ok-cells.ensures.opening in
     let new : AreNew ps cells.first = subst (λ (l : List (Option Suspended)). AreNew ps l) (sym is) c.in_ok-first.ensures.new in
     let none : c.in_ok-had.had.items ≡ replicate c.len.result 0 = c.in_ok-had.ensures.items_if_clones_equal (λ y h. search rules) in
+    let had : AreHad cells.first c.in_ok-had.had.items = subst (AreHad cells.first) (sym none) (new_had ps cells.first c.len.result new) in
+    let size : cells.rows ≡ c.args.rows = (search rules) in
+    let lens = c.layout_for-layout.result.lens in
+    let each = subst (λ (z : List ℕ × ℕ). AreRowsFor ps z.0 z.1 lens) (λ i. (c.deref.ensures.value i, sym size i)) c.layout_for-layout.ensures.words in
+    let words = each_has_words cells ps c.in_ok-had.had.items lens (new_first ps cells.first new) each (λ t start e. (let same = had t start e in omega (arith, same))) (ap (λ (y : Layout). y.lens) c.in_ok-cells.ensures.layout) in
+    let table : IsTable cells = table_of_first cells ps (map Some c.in_ok-first.first.items) is c.in_ok-first.ensures.new some few c.processes-processes.ensures.placed
+    (subst AreSpawnedOnce (sym value) c.processes-processes.ensures.limits.once)
+    (subst (λ (y : Layout). AllOfferAtMost y.offers ps) (sym c.in_ok-cells.ensures.layout) c.layout_for-layout.ensures.room) words rows (length c.in_ok-first.first.items) c.later.result c.in_ok-cells.ensures.opening in
     let opens : opening_at cells ≡ start_opening (length c.in_ok-first.first.items) c.later.result = c.in_ok-cells.ensures.opening in
     let few_first : length c.in_ok-first.first.items ≤ 64 = (search rules) in
     let lives : length (opening_at cells).threads ≡ cells.threads = ap (λ (o : Opening). length o.threads) opens ∙ start_threads (length c.in_ok-first.first.items) c.later.result ∙ sym c.in_ok-cells.ensures.size.0 in
@@ -72,7 +92,7 @@ returns-clause-season c =
         passes = λ k d h.
             let x = c.in_ok-cells.ensures.passes k (get_or c.in_ok-cells.passes.items k d) (slice_get-get_or c.in_ok-cells.passes.items k d h) in
             (x.0, ap (λ (s : Seen). s.opened) x.1, ap (λ (s : Seen). s.begun) x.1, ap (λ (s : Seen). s.bound) x.1, ap (λ (s : Seen). s.ended) x.1, table);
-        had = subst (AreHad cells.first) (sym none) (new_had ps cells.first c.len.result new);
+        had = had;
         played = subst (ArePlayed ps cells.rows 0) (sym empty) NoSeason;
         run = subst (IsRun ps (0 * cells.rows)) (sym empty) (run-none ps (0 * cells.rows));
         tells = subst (λ (z : List Commit × Opening). TellsRun ps z.0 z.1) (λ i. (sym empty i, sym opens i)) (tells_first ps (length c.in_ok-first.first.items) c.later.result few_first c.later.ensures);
