@@ -19,7 +19,8 @@ impl Play<(), View> for See {
     ghost then = { has_seen };
 }
 
-/// The same, and of any two looks that the pass knows of then, one saw the other.
+/// A word is read: all that any pass had written by then stands there, and of any two looks that the pass knows of
+/// then, one saw the other.
 pub struct Glance;
 
 impl Play<(), View> for Glance {

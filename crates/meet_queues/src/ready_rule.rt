@@ -17,7 +17,7 @@ impl Protocol<Entry<Row>, Hand<Row>> for ReadyRule {
     ghost guest = { dealer };
 }
 
-/// The same rule, where new hands have no number: they may take only.
+/// The rule of a deque and of the injector, where new hands have no number: they may take only.
 pub struct Stolen;
 
 impl Protocol<Entry<Row>, Hand<Row>> for Stolen {

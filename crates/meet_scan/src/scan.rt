@@ -370,7 +370,8 @@ fn scan_wished<G: StepGate, M: Resident>(
     None
 }
 
-/// The same, if there is such a thread, and it is another.
+/// Tries to meet the newest row of thread `first`, if there is such a thread and it is not the row's own. None: nothing
+/// came of it.
 #[inline(always)]
 fn scan_first<G: StepGate, M: Resident>(
     directory: &Directory,

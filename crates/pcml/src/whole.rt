@@ -22,7 +22,7 @@ fn can_be_read_again<R: Files>(rt: &R, name: &str) -> io::Result<bool> {
     Ok(true)
 }
 
-/// The same, and where the file cannot be read at all the system's reason is told.
+/// Whether a file can be read again. Where it cannot be read at all, the system's reason is told.
 fn tell_unread<R: Files, E: Write>(rt: &R, name: &str, err: &mut E) -> bool {
     match can_be_read_again(rt, name) {
         Ok(again) => again,

@@ -115,7 +115,8 @@ pub fn named_processes(alloc: Global, script: &Script, names: &str) -> Result<Ve
     }
 }
 
-/// The same, and all processes where no names are given.
+/// Of each process whether the names stand for it, as `named_processes` says; where no names are given, they stand for
+/// all.
 pub fn named_or_all(
     alloc: Global,
     script: &Script,

@@ -102,7 +102,7 @@ pub enum Request<'a> {
     OfJournal(OfJournal<'a>),
     /// Why the text in the file of this name is no script.
     WhyScript(&'a str),
-    /// The same in one line, as compilers tell it.
+    /// Why the text in the file of this name is no script, in one line, as compilers tell it.
     WhyShort(&'a str),
     /// What a script can come to.
     Outcomes(Search<'a>),

@@ -26,7 +26,7 @@ pub enum Replayed {
     Unlawful(Vec<u8>),
 }
 
-/// The same, with what the text says at its end as values.
+/// What comes of a journal: its text, with what that says at its end as values.
 #[derive(Drop)]
 pub enum Judged {
     /// It is a run. It is maximal where no commit may come next.
@@ -108,7 +108,7 @@ pub fn judge_journal(
     }
 }
 
-/// The same as text alone.
+/// The text of where the journal leads the script's processes, or of the first line with which it is no run.
 pub fn replay_text(
     alloc: Global,
     script: &Script,

@@ -28,7 +28,7 @@ fn push_there(
     write!(out, ":{line}:{column}: fault {number}: {words}\n")
 }
 
-/// The same behind the name of the file.
+/// Appends the name of a file, a line and a column of it, and a fault with its number and what it is.
 fn push_short(
     out: &mut String,
     name: &str,

@@ -8,8 +8,8 @@
 //! - `write` gives `Canon` of its script: the tokens of what is written plainly, with names in place of
 //!   numbers and parentheses only round a right operand that is itself a sum. This text spells the script,
 //!   and is read as it where it has at most 65,536 bytes.
-//! - The same of the canonical text of any script that some text spells; and no other script has it
-//!   (`writing_laws`).
+//! - The canonical text of any script that some text spells, spells it and is read as it where it is not too long;
+//!   and no other script has that text (`writing_laws`).
 //! - Each call ends, by the size of the tree that it goes down.
 #![tactic(auto)]
 

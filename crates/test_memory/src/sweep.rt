@@ -14,7 +14,7 @@ pub(crate) const MOST_AMOUNTS: usize = 40_000;
 pub(crate) enum Answer {
     /// The error for want of memory.
     Refused,
-    /// The same as with ample memory.
+    /// What it gives with ample memory.
     Same,
     Other,
 }

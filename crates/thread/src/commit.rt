@@ -76,7 +76,7 @@ fn pass(event: &Event, mut n: u8, message: Message, memory: &mut Memory) -> Resu
     }
 }
 
-/// The same, with no call where the event is a base event.
+/// Passes the message out of the event, as `pass` does, with no call where the event is a base event.
 #[inline(always)]
 fn leave(event: &Event, n: u8, message: Message, memory: &mut Memory) -> Result<Passage, Fault>
     ensures does { Passes (event_of event.now) n message memory.old memory.new result }

@@ -31,7 +31,7 @@ impl<A, B> Log<A, B> {
         Log { of: PhantomData }
     }
 
-    /// The same history.
+    /// A copy of the history.
     pub fn same(&self) -> Log<A, B>
         ensures { result.items ≡ self.now.items }
     {

@@ -36,7 +36,7 @@ const SENT: (u8, Message) = (0, Message::Empty);
 /// A table of the script's first two processes with four rows each, and the pass that holds their first rows.
 fn table(alloc: Global, script: &Script) -> Result<(Cells<Suspended>, Pass<Suspended>), Fail>
     ensures size { IfOk result (λ t. (t.0.threads ≡ 2) × (t.0.rows ≡ 4) × IsHousing t.0) }
-    ensures room { IfOk result (λ t. t.0.offers ≡ 8) }
+    ensures room { IfOk result (λ t. t.0.layout.offers ≡ 8) }
     ensures here { IfOk result (λ t. IsPassOf t.0 t.1) }
     ensures seen { IfOk result (λ t. t.1.seen ≡ seen_nothing (first_row 1 ∷ first_row 0 ∷ [])) }
 {
@@ -66,7 +66,7 @@ fn bind(
     nacks: &[u8],
 )
     requires here { IsPassOf cells.now pass.old × IsRowOf cells.now row × IsHousing cells.now }
-    requires room { cells.now.offers ≡ 8 }
+    requires room { cells.now.layout.offers ≡ 8 }
     requires fresh { Has pass.old.seen.held row × (¬ Has pass.old.seen.opened row) }
     requires free { (n : NackName) (b : Binding) → Has pass.old.seen.bound (n, b) → bound_row n b ≢ row }
     requires alive { ¬ SawEnded pass.old.seen row.thread }
@@ -93,7 +93,7 @@ fn enter(
     offers: &[Offer],
 )
     requires here { IsPassOf cells.now pass.old × IsRowOf cells.now row × IsHousing cells.now }
-    requires room { cells.now.offers ≡ 8 }
+    requires room { cells.now.layout.offers ≡ 8 }
     requires fresh { Has pass.old.seen.held row × (¬ Has pass.old.seen.opened row) }
     requires fetched { Holds pass.old row None }
     requires results { HasResults pass.old.results row }
@@ -118,7 +118,7 @@ fn enter(
 /// Opens the first rows of both.
 fn start(rt: &impl Abort, cells: &Cells<Suspended>, pass: &mut Pass<Suspended>)
     requires here { IsPassOf cells.now pass.old × (cells.now.threads ≡ 2) × (cells.now.rows ≡ 4) × IsHousing cells.now }
-    requires room { cells.now.offers ≡ 8 }
+    requires room { cells.now.layout.offers ≡ 8 }
     requires seen { pass.old.seen ≡ seen_nothing (first_row 1 ∷ first_row 0 ∷ []) }
     ensures here { IsPassOf cells.now pass.new }
 {
@@ -167,7 +167,7 @@ fn go_on(
     offers: &[Offer],
 ) -> Result<(), Fail>
     requires here { IsPassOf cells.now pass.old × IsRowOf cells.now (next_row row) × IsHousing cells.now × (row.sync < 3) }
-    requires room { cells.now.offers ≡ 8 }
+    requires room { cells.now.layout.offers ≡ 8 }
     requires offers { AreOffers offers.now }
     ensures { IsPassOf cells.now pass.new }
 {

@@ -20,6 +20,8 @@ impl Resident for Suspended {
 
     ghost houses = { true };
 
+    ghost short = { false };
+
     ghost stands = { record { follows = λ first value thread results. ⊤; offers = λ first value thread results offers nacks. ⊤; starts = λ first value thread results other. ⊥; ends = λ first value thread results. ⊥ } };
 }
 
