@@ -16,7 +16,7 @@ pub(super) struct Suspended {
 }
 
 impl Resident for Suspended {
-    ghost use Rattle.std.specs.Prelude.{true, ⊤};
+    ghost use Rattle.std.specs.Prelude.{false, true, ⊤};
 
     ghost houses = { true };
 
