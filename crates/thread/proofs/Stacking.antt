@@ -1,5 +1,7 @@
 -- Frames that are put onto a stack, and places and plans of a linked code.
-use Rattle.std.proofs.Common.{◌≡◌, ℕ, List, [], ◌∷◌, ◌++◌, Option, Some, None, slice_get, refl, sym, ap, ◌∙◌, subst}
+use Rattle.std.proofs.Common.{◌≡◌, ℕ, ◌+◌, List, [], ◌∷◌, ◌++◌, Option, Some, None, length, take, set, get_or, slice_get, refl, sym, ap, ◌∙◌, subst, arith}
+use Rattle.std.proofs.Math.Seq.{take-length}
+use Rattle.std.proofs.lemmas.List.{length-set, take_more, take_more_set}
 use Rattle.std.proofs.lemmas.Option.{none-some}
 use Rattle.std.specs.Option.{option_map}
 use Rattle.thread_code.specs.Codes.{BlockLeads, HasPlan, IsAt, IsLinked, StmtLeads}
@@ -27,6 +29,17 @@ fits_pushed c new old f is = ap (FramesFit c) is ∙ stacked_push (FrameFits c) 
 
 pub reach_pushed : (c : Code) (new old : List Frame) (f : Frame) → new ≡ old ++ f ∷ [] → frames_reach c new ≡ frame_reach c f (frames_reach c old)
 reach_pushed c new old f is = ap (frames_reach c) is ∙ stacked_push (frame_reach c) 1 old f
+
+-- the innermost frame, by its number
+pub innermost : (whole below : List Frame) (last : ℕ) (f g : Frame) → length whole ≡ last + 1 → f ≡ get_or whole last f → below ≡ take last whole → f ≡ g → whole ≡ below ++ g ∷ []
+innermost whole below last f g long is others named =
+    sym (take-length whole) ∙ ap (λ k. take k whole) long ∙ take_more whole last f (omega (arith, long))
+    ∙ ap (λ (h : Frame). take last whole ++ h ∷ []) (sym is ∙ named) ∙ ap (λ l. l ++ g ∷ []) (sym others)
+
+-- another one in its place
+pub innermost_set : (whole : List Frame) (last : ℕ) (f : Frame) → length whole ≡ last + 1 → set whole last f ≡ take last whole ++ f ∷ []
+innermost_set whole last f long =
+    sym (take-length (set whole last f)) ∙ ap (λ k. take k (set whole last f)) (length-set whole last f ∙ long) ∙ take_more_set whole last f (omega (arith, long))
 
 -- PLACES AND PLANS
 

@@ -20,6 +20,7 @@ use script_tree::{Event, Exprs, Name};
 use std::alloc::AllocError;
 use thread_code::{Code, Stage};
 
+#[inline(always)]
 fn channel_of(name: Name, variables: &[Option<Atom>]) -> Result<u8, Fault>
     ensures { result ≡ channel_value variables.now name }
 {
@@ -38,6 +39,7 @@ fn nack_of(name: Name, variables: &[Option<Atom>]) -> Result<NackName, Fault>
     }
 }
 
+#[inline(always)]
 fn send(channel: Name, list: &Exprs, variables: &[Option<Atom>]) -> Result<Base, Fault>
     ensures { result ≡ send_value variables.now channel (exprs_of list.now) }
 {
@@ -46,6 +48,7 @@ fn send(channel: Name, list: &Exprs, variables: &[Option<Atom>]) -> Result<Base,
     Ok(Base::Send(channel, message))
 }
 
+#[inline(always)]
 fn recv(channel: Name, variables: &[Option<Atom>]) -> Result<Base, Fault>
     ensures { result ≡ recv_value variables.now channel }
 {
@@ -53,6 +56,7 @@ fn recv(channel: Name, variables: &[Option<Atom>]) -> Result<Base, Fault>
     Ok(Base::Recv(channel))
 }
 
+#[inline(never)]
 fn always(list: &Exprs, variables: &[Option<Atom>]) -> Result<Base, Fault>
     ensures { result ≡ always_value variables.now (exprs_of list.now) }
 {
@@ -60,6 +64,7 @@ fn always(list: &Exprs, variables: &[Option<Atom>]) -> Result<Base, Fault>
     Ok(Base::Always(message))
 }
 
+#[inline(never)]
 fn cancelled(nack: Name, variables: &[Option<Atom>]) -> Result<Base, Fault>
     ensures { result ≡ cancelled_value variables.now nack }
 {
@@ -68,6 +73,7 @@ fn cancelled(nack: Name, variables: &[Option<Atom>]) -> Result<Base, Fault>
 }
 
 /// What a base event comes to.
+#[inline(always)]
 fn base_of(event: &Event, variables: &[Option<Atom>]) -> Result<Base, Fault>
     ensures { result ≡ base_value variables.now (event_of event.now) }
 {

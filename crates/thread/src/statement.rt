@@ -60,8 +60,46 @@ pub(crate) fn run(
 {
     let place = place_at(code, at);
     let Block::Then(stmt, line, _) = &*place.block else {
-        let step = back(code, memory, stack)?;
-        return Ok(step);
+        return Ok(back(code, memory, stack));
+    };
+    match stmt {
+        Stmt::Let(name, value) => {
+            memory.line = *line;
+            match value_of(value, &memory.variables) {
+                Ok(atom) => {
+                    memory.set(*name, atom);
+                    Ok(Step::On(Now::At(place.next)))
+                }
+                Err(fault) => Ok(Step::To(Stop::Faulted(fault))),
+            }
+        }
+        Stmt::Sync(_, _) => {
+            memory.line = *line;
+            Ok(Step::On(Now::Open(opening(stack, place.first))))
+        }
+        _ => run_other(code, at, memory, stack),
+    }
+}
+
+/// Runs the first statement at a place, or begins it, whichever it is. `run` has the two that most turns run in line: so
+/// what the others need costs them nothing.
+#[inline(never)]
+fn run_other(
+    code: &Code,
+    at: u32,
+    memory: &mut Memory,
+    stack: &mut Stack,
+) -> Result<Step, AllocError>
+    requires linked { IsLinked code.now }
+    requires fits { NowFits code.now stack.old (now.At at) }
+    ensures does { IfOk result (λ step. (rs : List Chosen) → step_on code.now stack.new step (state_of memory.new rs) ≡ now_on code.now stack.old (now.At at) (state_of memory.old rs)) }
+    ensures falls { IfOk result (Falls code.now (now_reach code.now stack.old (now.At at)) stack.new) }
+    ensures fits { IfOk result (StepFits code.now stack.new) }
+    ensures spawned { IfOk result (λ step. SpawnsOn memory.old memory.new) }
+{
+    let place = place_at(code, at);
+    let Block::Then(stmt, line, _) = &*place.block else {
+        return Ok(back(code, memory, stack));
     };
     memory.line = *line;
     match stmt {
@@ -101,28 +139,36 @@ pub(crate) fn run(
     }
 }
 
-/// Goes back to the innermost frame.
+/// Goes back to the innermost frame. A loop with a turn left stays where it is.
 #[inline(always)]
-pub(crate) fn back(code: &Code, memory: &Memory, stack: &mut Stack) -> Result<Step, AllocError>
+pub(crate) fn back(code: &Code, memory: &Memory, stack: &mut Stack) -> Step
     requires fits { NowFits code.now stack.old now.Back }
-    ensures does { IfOk result (λ step. (rs : List Chosen) → step_on code.now stack.new step (state_of memory.now rs) ≡ now_on code.now stack.old now.Back (state_of memory.now rs)) }
-    ensures falls { IfOk result (Falls code.now (now_reach code.now stack.old now.Back) stack.new) }
-    ensures fits { IfOk result (StepFits code.now stack.new) }
+    ensures does { (rs : List Chosen) → step_on code.now stack.new result (state_of memory.now rs) ≡ now_on code.now stack.old now.Back (state_of memory.now rs) }
+    ensures falls { Falls code.now (now_reach code.now stack.old now.Back) stack.new result }
+    ensures fits { StepFits code.now stack.new result }
 {
-    match stack.frames.pop() {
-        None => Ok(Step::To(Stop::Ended)),
-        Some(Frame::Rest(at)) => Ok(Step::On(Now::At(at))),
-        Some(Frame::Times(times, plan)) => match times.checked_sub(1) {
-            None => Ok(Step::On(Now::Back)),
+    let Some(last) = stack.frames.len().checked_sub(1) else {
+        return Step::To(Stop::Ended);
+    };
+    match stack.frames[last] {
+        Frame::Rest(at) => {
+            stack.frames.truncate(last);
+            Step::On(Now::At(at))
+        }
+        Frame::Times(times, plan) => match times.checked_sub(1) {
+            None => {
+                stack.frames.truncate(last);
+                Step::On(Now::Back)
+            }
             Some(left) => {
-                stack.frames.push(Frame::Times(left, plan))?;
-                Ok(Step::On(Now::Open(opening(stack, plan))))
+                stack.frames[last] = Frame::Times(left, plan);
+                Step::On(Now::Open(opening(stack, plan)))
             }
         },
-        Some(Frame::Endless(plan)) => {
-            stack.frames.push(Frame::Endless(plan))?;
-            Ok(Step::On(Now::Open(opening(stack, plan))))
+        Frame::Endless(plan) => Step::On(Now::Open(opening(stack, plan))),
+        Frame::Event(opening) => {
+            stack.frames.truncate(last);
+            Step::On(Now::Open(opening))
         }
-        Some(Frame::Event(opening)) => Ok(Step::On(Now::Open(opening))),
     }
 }
