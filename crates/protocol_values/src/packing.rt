@@ -64,6 +64,7 @@ use crate::{
 };
 
 /// The number in `width` bits of a word, from bit `low` on.
+#[inline(always)]
 fn field(word: u64, low: u32, width: u32) -> u64
     requires low { low < 64 }
     requires width { width < 64 }
@@ -114,6 +115,7 @@ pub fn pack_cell(cell: Cell) -> u64
     }
 }
 
+#[inline(always)]
 fn partner_fields(word: u64) -> Option<(Row, u8)>
     ensures { result ≡ partner_fields word }
 {
@@ -128,6 +130,7 @@ fn partner_fields(word: u64) -> Option<(Row, u8)>
     }
 }
 
+#[inline(always)]
 fn joined_fields(word: u64) -> Joined
     ensures { result ≡ joined_fields word }
 {
@@ -138,6 +141,7 @@ fn joined_fields(word: u64) -> Joined
     }
 }
 
+#[inline(always)]
 fn cell_fields(word: u64) -> Cell
     ensures value { result ≡ cell_fields word }
 {
@@ -238,6 +242,7 @@ pub fn pack_head(head: Head) -> u64
     direction_bits(head.direction) + u64::from(head.scopes) * (1 << 25)
 }
 
+#[inline(always)]
 fn direction_fields(word: u64) -> Direction
     ensures { result ≡ direction_fields word }
 {
@@ -261,6 +266,7 @@ fn direction_fields(word: u64) -> Direction
     }
 }
 
+#[inline(always)]
 fn head_fields(word: u64) -> Head
     ensures value { result ≡ head_fields word }
     ensures in_range { IsHeadInRange result }
@@ -310,6 +316,7 @@ pub fn pack_atom(atom: Atom) -> u64
     }
 }
 
+#[inline(always)]
 fn atom_fields(word: u64) -> Atom
     ensures value { result ≡ atom_fields word }
     ensures in_range { IsAtomInRange result }
@@ -453,6 +460,7 @@ pub fn read_course(word: u64) -> Course
 
 // ---- a whole offer
 
+#[inline(always)]
 fn atom_count(message: Message) -> u8
     ensures { result ≡ atom_count message }
 {
@@ -464,6 +472,7 @@ fn atom_count(message: Message) -> u8
     }
 }
 
+#[inline(always)]
 fn head_in(offer: Offer) -> Head
     ensures { result ≡ head_in offer }
 {
@@ -486,6 +495,7 @@ fn head_in(offer: Offer) -> Head
     }
 }
 
+#[inline(always)]
 fn message_in(base: Base) -> Message
     ensures { result ≡ message_in base }
 {
@@ -495,6 +505,7 @@ fn message_in(base: Base) -> Message
     }
 }
 
+#[inline(always)]
 fn message_words(message: Message) -> [u64; 3]
     requires { IsMessageInRange message }
     ensures { result ≡ first_word message ∷ second_word message ∷ third_word message ∷ [] }
