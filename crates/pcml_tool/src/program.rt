@@ -142,6 +142,15 @@ fn keep_run<S: Source>(
 const LONG: &str =
     "the journal has more than 16777216 bytes: it was kept whole, and replay, why, chart, next and stats answer fault 23 to it. Fewer --rows or messages make a shorter one.\n";
 
+/// So many bytes are asked for and given back before a run. The C library gives a larger block back to the system when it is
+/// freed, until one of up to 32 MiB was: from then on it keeps what a run frees, and the next list has its pages.
+const KEPT_BYTES: usize = (32 << 20) - (64 << 10);
+
+/// Makes the C library keep what is freed. Where it has no such memory, or is another one, nothing is lost.
+fn keep_memory(alloc: Global) {
+    let _ = Vec::<u8>::with_capacity(alloc, KEPT_BYTES);
+}
+
 /// What is answered of a run of a script; the journal is kept, where that is asked for.
 fn answer_run<R: Threads + Wait + Sync, S: Source>(
     rt: &R,
@@ -155,6 +164,7 @@ fn answer_run<R: Threads + Wait + Sync, S: Source>(
 {
     let (source_text, script) = read_source(alloc, source, asked.script)?;
     let needed = needed_by(alloc, &script, asked.need)?;
+    keep_memory(alloc);
     let ran = run_asked(rt, alloc, &script, asked.workers, asked.rows, asked.seasons)?;
     let verdict = verdict_by(&ran.ends, &needed);
     let rows = all_rows(asked.rows, asked.seasons);
