@@ -5,7 +5,7 @@ ghost use Rattle.protocol_values.specs.Words.{IsOfferInRange, atom_of};
 ghost use Rattle.protocol_values.specs.declared.Offer.{Offer};
 ghost use Rattle.cell.specs.Attempts.{OnlyDrafts};
 ghost use Rattle.cell_table.specs.declared.view.Stage.TheVariants.{Resting};
-ghost use Rattle.protocol.specs.Short.{HasWords};
+ghost use Rattle.protocol.specs.Short.{HasWords, short_place};
 ghost use Rattle.cell_table.specs.Seats.{Sits, HasRow, StaysSeated};
 ghost use Rattle.cell_table.specs.Sight.{AreOffers, Has, HasDrafted, IsDraft, IsPlaceOf, Redrafts, SawEnded};
 ghost use Rattle.cell_table.specs.Views.{worked};
@@ -37,9 +37,10 @@ pub(crate) fn draft_offers<M: Resident>(
     ensures others { Redrafts (λ q p. q ≡ row) seat.old.me.0.seen seat.new.me.0.seen }
     ensures drafted { IsDraft seat.new.me.0.seen row offers.now }
 {
-    board.draft(seat, row, 1, pack_count(offers.len() as u8));
+    let begin = board.first_place(row);
+    board.draft(seat, row, begin, 1, pack_count(offers.len() as u8));
     for (n, offer) in offers.iter().enumerate() {
-        draft_offer(board, seat, row, n as u8, *offer);
+        draft_offer(board, seat, row, begin, n as u8, *offer);
     }
 }
 
@@ -48,11 +49,13 @@ fn draft_offer<M: Resident>(
     board: &Board<M>,
     seat: &mut Seat<Option<M>, View<M>>,
     row: Row,
+    begin: usize,
     n: u8,
     offer: Offer,
 )
     requires sits { Sits board.now seat.old × HasRow board.now row }
     requires words { HasWords board.now.shape.layout row }
+    requires begin { begin ≡ short_place board.now.shape.layout row 0 }
     requires resting { seat.old.me.0.stage ≡ Resting }
     requires held { Has seat.old.me.0.seen.held row × (¬ Has seat.old.me.0.seen.opened row) }
     requires alive { ¬ SawEnded seat.old.me.0.seen row.thread }
@@ -65,10 +68,10 @@ fn draft_offer<M: Resident>(
 {
     let [head, first, second, third] = pack_offer(offer);
     let atoms = atoms_told(read_head(head).direction);
-    board.draft(seat, row, 2 + 4 * n, head);
-    draft_atom(board, seat, row, n, 1, first, atoms >= 1);
-    draft_atom(board, seat, row, n, 2, second, atoms >= 2);
-    draft_atom(board, seat, row, n, 3, third, atoms >= 3);
+    board.draft(seat, row, begin, 2 + 4 * n, head);
+    draft_atom(board, seat, row, begin, n, 1, first, atoms >= 1);
+    draft_atom(board, seat, row, begin, n, 2, second, atoms >= 2);
+    draft_atom(board, seat, row, begin, n, 3, third, atoms >= 3);
 }
 
 /// Writes atom k, 1 to 3, of offer n, where the offer has it.
@@ -76,6 +79,7 @@ fn draft_atom<M: Resident>(
     board: &Board<M>,
     seat: &mut Seat<Option<M>, View<M>>,
     row: Row,
+    begin: usize,
     n: u8,
     k: u8,
     word: u64,
@@ -83,6 +87,7 @@ fn draft_atom<M: Resident>(
 )
     requires sits { Sits board.now seat.old × HasRow board.now row }
     requires words { HasWords board.now.shape.layout row }
+    requires begin { begin ≡ short_place board.now.shape.layout row 0 }
     requires resting { seat.old.me.0.stage ≡ Resting }
     requires held { Has seat.old.me.0.seen.held row × (¬ Has seat.old.me.0.seen.opened row) }
     requires alive { ¬ SawEnded seat.old.me.0.seen row.thread }
@@ -94,6 +99,6 @@ fn draft_atom<M: Resident>(
     ensures drafted { IsTrue has → Has seat.new.me.0.seen.drafts (row, 2 + k + 4 * n, word) }
 {
     if has {
-        board.draft(seat, row, 2 + k + 4 * n, word);
+        board.draft(seat, row, begin, 2 + k + 4 * n, word);
     }
 }

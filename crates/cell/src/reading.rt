@@ -7,6 +7,7 @@ ghost use Rattle.protocol_values.specs.declared.Message.{Message};
 ghost use Rattle.protocol_values.specs.declared.Base.TheVariants.{Recv, Send};
 ghost use Rattle.protocol_values.specs.declared.Offer.{Offer};
 ghost use Rattle.protocol_values.specs.declared.Row.{Row};
+ghost use Rattle.protocol.specs.Short.{short_place};
 ghost use Rattle.protocol.specs.Tables.{names};
 ghost use Rattle.cell_table.specs.Seats.{Sits, HasRow, StaysSeated};
 ghost use Rattle.cell_table.specs.Sight.{Has, HaveDirection, HaveOffer, HasSeenLast, IsBefore, IsKnownOpen, IsPartnerOf, IsReached, IsResult, LackOffer, SawCommitted, SawEnded, SeesDirection, SeesOffer, Learns, LearnsOf, atoms_told};
@@ -58,15 +59,16 @@ pub(crate) fn opened_offer<M: Resident>(
     ensures none { IfNone result (LackOffer seat.new.me.0.seen.words row n) }
     ensures same { (o : Offer) → SeesOffer seat.new.me.0.seen row n o → result ≡ Some o }
 {
-    let count = unpack_count(board.read(seat, row, 1))?;
+    let begin = board.first_place(row);
+    let count = unpack_count(board.read(seat, row, begin, 1))?;
     if n >= count {
         return None;
     }
-    let head = board.read(seat, row, 2 + 4 * n);
+    let head = board.read(seat, row, begin, 2 + 4 * n);
     let atoms = atoms_told(read_head(head).direction);
-    let first = read_atom(board, seat, row, n, 1, atoms >= 1);
-    let second = read_atom(board, seat, row, n, 2, atoms >= 2);
-    let third = read_atom(board, seat, row, n, 3, atoms >= 3);
+    let first = read_atom(board, seat, row, begin, n, 1, atoms >= 1);
+    let second = read_atom(board, seat, row, begin, n, 2, atoms >= 2);
+    let third = read_atom(board, seat, row, begin, n, 3, atoms >= 3);
     Some(read_offer(head, first, second, third))
 }
 
@@ -76,12 +78,14 @@ fn read_atom<M: Resident>(
     board: &Board<M>,
     seat: &mut Seat<Option<M>, View<M>>,
     row: Row,
+    begin: usize,
     n: u8,
     k: u8,
     has: bool,
 ) -> u64
     requires sits { Sits board.now seat.old × HasRow board.now row × Has seat.old.me.0.seen.opened row }
     requires place { (n < board.now.shape.layout.offers) × (1 ≤ k) × (k < 4) }
+    requires begin { begin ≡ short_place board.now.shape.layout row 0 }
     ensures sits { StaysSeated board.now seat.old seat.new }
     ensures stays { seat.new.me.0 ≡ at_stage seat.old.me.0.stage seat.new.me.0.seen seat.old.me.0 }
     ensures learns { Learns (λ q. q ≡ row) seat.old.me.0.seen seat.new.me.0.seen }
@@ -89,7 +93,7 @@ fn read_atom<M: Resident>(
     ensures atom { is_some (atom_of result) ≡ true }
 {
     if has {
-        board.read(seat, row, 2 + k + 4 * n)
+        board.read(seat, row, begin, 2 + k + 4 * n)
     } else {
         0
     }
@@ -131,11 +135,12 @@ pub(crate) fn opened_direction<M: Resident>(
     ensures none { IfNone result (LackOffer seat.new.me.0.seen.words row n) }
     ensures same { (d : Direction) → SeesDirection seat.new.me.0.seen row n d → result ≡ Some d }
 {
-    let count = unpack_count(board.read(seat, row, 1))?;
+    let begin = board.first_place(row);
+    let count = unpack_count(board.read(seat, row, begin, 1))?;
     if n >= count {
         return None;
     }
-    let head = board.read(seat, row, 2 + 4 * n);
+    let head = board.read(seat, row, begin, 2 + 4 * n);
     Some(read_head(head).direction)
 }
 

@@ -89,6 +89,26 @@ impl<M: Resident> Board<M> {
             + usize::from(place)
     }
 
+    /// Where the row's words begin.
+    #[inline(always)]
+    pub fn first_place(&self, row: Row) -> usize
+        requires { HasRow self.now row × HasWords self.now.shape.layout row }
+        ensures { result ≡ short_place self.now.shape.layout row 0 }
+    {
+        self.place(row, 0)
+    }
+
+    // where the word of a row at a place lies, whose words begin there
+    #[inline(always)]
+    fn place_behind(&self, first: usize, row: Row, place: u8) -> usize
+        requires there { HasRow self.now row × HasWords self.now.shape.layout row × (place < row_len self.now.shape.layout.offers) }
+        requires first { first ≡ short_place self.now.shape.layout row 0 }
+        ensures { (result ≡ short_place self.now.shape.layout row place) × (result < self.now.words.shared.table_id.words) }
+    {
+        let _ = row;
+        first + usize::from(place)
+    }
+
     // where the word of a nack lies
     fn nack_place(&self, nack: NackName) -> usize
         requires { HasNack self.now nack }
@@ -158,22 +178,40 @@ impl<M: Resident> Board<M> {
         read_cell(self.words.shared.load::<Look>(seat, self.place(row, 0)))
     }
 
-    /// Reads a word of a row that was seen opened.
-    pub fn read(&self, seat: &mut Seat<Option<M>, View<M>>, row: Row, place: u8) -> u64
+    /// Reads a word of a row that was seen opened, whose words begin there.
+    pub fn read(
+        &self,
+        seat: &mut Seat<Option<M>, View<M>>,
+        row: Row,
+        first: usize,
+        place: u8,
+    ) -> u64
         requires sits { Sits self.now seat.old × HasRow self.now row }
         requires words { HasWords self.now.shape.layout row }
+        requires first { first ≡ short_place self.now.shape.layout row 0 }
         requires place { (1 ≤ place) × (place < row_len self.now.shape.layout.offers) × Has seat.old.me.0.seen.opened row }
         ensures sits { StaysSeated self.now seat.old seat.new }
         ensures read { seat.new.me.0 ≡ read_word row place result seat.old.me.0 }
         ensures few { place ≡ 1 → unwrap_or (count_of result) 0 ≤ self.now.shape.layout.offers }
     {
-        self.words.shared.load::<Read>(seat, self.place(row, place))
+        self.words
+            .shared
+            .load::<Read>(seat, self.place_behind(first, row, place))
     }
 
-    /// Writes a word of a held row that is not opened yet: no greater number of offers than a row has room for.
-    pub fn draft(&self, seat: &mut Seat<Option<M>, View<M>>, row: Row, place: u8, word: u64)
+    /// Writes a word of a held row that is not opened yet, whose words begin there: no greater number of offers than a row
+    /// has room for.
+    pub fn draft(
+        &self,
+        seat: &mut Seat<Option<M>, View<M>>,
+        row: Row,
+        first: usize,
+        place: u8,
+        word: u64,
+    )
         requires sits { Sits self.now seat.old × HasRow self.now row }
         requires words { HasWords self.now.shape.layout row }
+        requires first { first ≡ short_place self.now.shape.layout row 0 }
         requires place { (1 ≤ place) × (place < row_len self.now.shape.layout.offers) × (is_word_for place word ≡ true) }
         requires few { place ≡ 1 → unwrap_or (count_of word) 0 ≤ self.now.shape.layout.offers }
         requires resting { seat.old.me.0.stage ≡ Resting }
@@ -184,7 +222,7 @@ impl<M: Resident> Board<M> {
     {
         self.words
             .shared
-            .store::<Draft>(seat, self.place(row, place), word);
+            .store::<Draft>(seat, self.place_behind(first, row, place), word);
     }
 
     /// Opens a held row that is Fresh.

@@ -62,3 +62,6 @@ read-requires-clause-words g c = opened_words c.args.board.now.shape.layout c.ar
 
 pub read-head-requires-clause-words : goal.read-head-requires-clause-words
 read-head-requires-clause-words g c = opened_words c.args.board.now.shape.layout c.args.seat.now.me.0.seen c.args.row c.requires.0.9 c.requires.2
+
+pub first_place-begin-requires : goal.first_place-begin-requires
+first_place-begin-requires g c = (c.requires.1, opened_words c.args.board.now.shape.layout c.args.seat.now.me.0.seen c.args.row c.requires.0.9 c.requires.2)

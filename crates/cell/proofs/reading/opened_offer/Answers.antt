@@ -1,8 +1,10 @@
 use Rattle.std.proofs.Common.{rules, ◌≡◌, ◌+◌, ◌*◌, ◌<◌, None, Some, ℕ, sym, ◌∙◌, subst, arith, unwrap_or, Option}
 use Rattle.protocol_values.specs.Words.{count_of}
-use Rattle.cell_table.specs.Sight.{Has}
+use Rattle.protocol_values.specs.declared.Row.{Row}
+use Rattle.cell_table.specs.Sight.{Has, Learns}
 use Rattle.cell_table.proofs.Offers.{ReadOffer, count_and_head, head_place, offer_words, read_formed, read_have, seen_below, seen_same}
 use Rattle.cell_table.proofs.Truths.{opened_words}
+use Rattle.cell.proofs.Learning.{learns_then}
 use Rattle.cell.proofs.reading.opened_offer.Goals as goal
 use Rattle.cell.proofs.reading.opened_offer.Goals.{After-read_atom-third, After-read_offer}
 
@@ -56,3 +58,13 @@ read-requires-clause-words g c = opened_words c.args.board.now.shape.layout c.ar
 
 pub read-head-requires-clause-words : goal.read-head-requires-clause-words
 read-head-requires-clause-words g c = opened_words c.args.board.now.shape.layout c.args.seat.now.me.0.seen c.args.row c.requires.0.9 c.requires.2
+
+pub first_place-begin-requires : goal.first_place-begin-requires
+first_place-begin-requires g c = (c.requires.1, opened_words c.args.board.now.shape.layout c.args.seat.now.me.0.seen c.args.row c.requires.0.9 c.requires.2)
+
+pub returns-clause-learns : goal.returns-clause-learns
+returns-clause-learns g c =
+    let Own : Row → Type 0 = λ q. q ≡ c.args.row in
+    let to_head : Learns Own c.args.seat.now.me.0.seen c.read-head.new.seat.me.0.seen = (search rules) in
+    let to_first = learns_then Own _ _ _ to_head c.read_atom-first.ensures.learns in
+    learns_then Own _ _ _ (learns_then Own _ _ _ to_first c.read_atom-second.ensures.learns) c.read_atom-third.ensures.learns
