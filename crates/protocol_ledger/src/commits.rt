@@ -193,13 +193,14 @@ impl Sheet {
         Ok(commits)
     }
 
-    /// Adds the commits of a thread, row by row. No row behind a Fresh one is committed.
+    /// Adds the commits of a thread, row by row. No row behind a Fresh one is committed, nor one that has no words.
     fn tell(&self, thread: u8, commits: &mut Vec<Commit>) -> Result<(), AllocError>
         requires lawful { IsLawful (ledger_of (table_of self.now)) }
         requires thread { thread < self.now.threads }
         ensures { IsOk result → commits.new.items ≡ commits.old.items ++ commits_of (rows_below thread self.now.rows) (joined_at (table_of self.now)) (offer_at (table_of self.now)) }
     {
-        for sync in 0..self.rows {
+        let rows = usize::from(self.layout.lens[usize::from(thread)]);
+        for sync in 0..rows {
             let row = Row {
                 thread,
                 sync: sync as u32,
