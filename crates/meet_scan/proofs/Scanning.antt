@@ -17,13 +17,11 @@ use Rattle.cell_table.specs.declared.view.Seen.{Seen}
 use Rattle.cell_table.specs.Sight.{Coherent, Has, HaveDirection, LackOffer, SawCommitted}
 use Rattle.meet_directory.specs.declared.view.View.{View}
 use Rattle.meet_directory.specs.Directory.{HasBit, Missed, NoBitBetween, NoPairMissed, Opened, Published, glimpse, saw, Has as HasMark}
-use Rattle.meet_scan.specs.Leaving.{ArePublished, AreRead, CannotPass, ComesTo, IsDoneWith, IsHeldUp, IsHeldUpBy, IsLeft, IsLeftAt, IsLeftFor, IsLeftRow, IsPast, IsTried, IsTriedAt, IsTriedFor, KnowsMore, MeetsNoneAt, MeetsOnly, NoPairLeft, PassedBy, ScansTo, TriesFirst, lanes_of}
+use Rattle.meet_scan.specs.Leaving.{ArePublished, AreRead, CannotPass, ComesTo, IsDoneWith, IsHeldUp, IsHeldUpBy, IsLeft, IsLeftAt, IsLeftFor, IsLeftRow, IsPast, IsTried, IsTriedAt, IsTriedFor, KnowsMore, MeetsNoneAt, NoPairLeft, PassedBy, ScansTo, TriesFirst, lanes_of}
 use Rattle.meet_scan.specs.Searches.{FoundAt, Grows, LacksAt, Leaves, Lists}
 use Rattle.meet_scan.specs.Steps.{SearchMade, found_or_left}
 use Rattle.protocol_values.specs.declared.Step.{Step}
 use Rattle.cell_table.specs.Nacks.{CanStandAlone}
-use Rattle.cell_table.proofs.Directions.{sees_direction}
-use Rattle.meet_scan.proofs.Reading.{none_behind}
 use Rattle.meet_scan.specs.declared.found.Found.{Found}
 use Rattle.meet_scan.specs.declared.found.Found.TheVariants.{Met, Alone, Already, Left}
 use Rattle.meet_scan.proofs.Growing.{NeedsPartner, grows_nothing, grows_then, saw_more, seen_more, stands_never}
@@ -330,12 +328,6 @@ needs_partner Never both e = absurd (no_lane Never both refl e)
 pub never_alone : (threads rows : ℕ) (s : Seen) (r : Row) (n : ℕ) (d : Direction) (both : ℕ × ℕ) → Coherent threads rows s → HaveDirection s.words r n d → lanes_of d ≡ Some both → ¬ CanStandAlone s r n
 never_alone threads rows s r n d both agree have e = stands_never threads rows s r n d agree (inl have) (needs_partner d both e)
 
--- nor does one that the row has not
-pub lacking_alone : (threads rows : ℕ) (s : Seen) (r : Row) (n : ℕ) → Coherent threads rows s → LackOffer s.words r n → ¬ CanStandAlone s r n
-lacking_alone threads rows s r n agree lacks (o, sees, ready) =
-    let told = sees_direction s r n o sees in
-    let below = none_behind threads rows s r n n told.0 agree lacks told.1 in absurd (omega arith)
-
 pub left_in_lane : (v : View) (s : Seen) (r : Row) (d : Direction) (both : ℕ × ℕ) → lanes_of d ≡ Some both → IsLeft v s r d both.0 both.1 → IsLeftFor v s r d
 left_in_lane v s r d both is left l m e = subst (λ (z : ℕ × ℕ). IsLeft v s r d z.0 z.1) (one_lane d both (l, m) is e) left
 
@@ -350,6 +342,12 @@ pub left_next : (v w : View) (s t u : Seen) (r : Row) (Asked : Type 0) (n : ℕ)
 left_next v w s t u r Asked n more g before here alone k low = dite (ℕ_discrete k n)
     (λ (e : k ≡ n). subst (λ (z : ℕ). IsLeftAt w u r z × (Asked → ¬ CanStandAlone s r z)) (sym e) (here, alone))
     (λ (ne : k ≢ n). let was = before k (omega arith) in (left_at_more v w t u r k more g was.0, was.1))
+
+-- the first offers, of a row that has no more
+pub left_behind : (v : View) (t : Seen) (r : Row) (n : ℕ) → LackOffer t.words r n → ((k : ℕ) → k < n → IsLeftAt v t r k) → (k : ℕ) → IsLeftAt v t r k
+left_behind v t r n lacks before k = dite (dec_le n k)
+    (λ (far : n ≤ k). inl (lacks_behind t r n k far lacks))
+    (λ (near : ¬ (n ≤ k)). before k (lt_of_not-le near))
 
 -- the row was left for all its offers, and then to others
 pub left_scans : (v : View) (s t u : Seen) (r : Row) (found : Found) → Grows s t → Grows t u → IsLeftRow v t r → Leaves t u r found → ScansTo v s u r found
@@ -462,6 +460,12 @@ pub tried_next : {M : Type 0} (g : GridOf M) (v w : View) (s t u : Seen) (r : Ro
 tried_next g v w s t u r first n more after before here =
     next_of (λ (k : ℕ). IsTriedAt g v s t r first k) (λ (k : ℕ). IsTriedAt g w s u r first k) n
     (λ k h. tried_at_more g v w s s t u r first k more (grows_nothing s) after h) before here
+
+-- of a row that has no more
+pub tried_behind : {M : Type 0} (g : GridOf M) (v : View) (s t : Seen) (r : Row) (first n : ℕ) → LackOffer t.words r n → AreTried g v s t r first n → (k : ℕ) → IsTriedAt g v s t r first k
+tried_behind g v s t r first n lacks before k = dite (dec_le n k)
+    (λ (far : n ≤ k). inl (lacks_behind t r n k far lacks))
+    (λ (near : ¬ (n ≤ k)). before k (lt_of_not-le near))
 
 -- for an offer that has this lane, or none
 pub tried_in_lane : {M : Type 0} (g : GridOf M) (v : View) (s t : Seen) (r : Row) (d : Direction) (both : ℕ × ℕ) (first : ℕ) → lanes_of d ≡ Some both

@@ -289,7 +289,7 @@ pub fn scan_offers<G: StepGate, M: Resident>(
     let mut is_claimed = false;
     for n in 0..8 {
         let Some(direction) = directions[usize::from(n)] else {
-            continue;
+            return (!is_claimed).then_some(Found::Left);
         };
         match scan_offer(
             directory,
@@ -344,7 +344,7 @@ fn scan_wished<G: StepGate, M: Resident>(
 {
     for n in 0..8 {
         let Some(direction) = directions[usize::from(n)] else {
-            continue;
+            return None;
         };
         let Some(both) = lanes(direction) else {
             continue;

@@ -1,24 +1,18 @@
--- What one word says of a row, with nothing unpacked: that the row is committed, that it has a partner, and that an offer
--- is a send.
-use Rattle.std.proofs.Common.{◌≡◌, ℕ, ◌+◌, ◌*◌, ◌/◌, ◌%◌, ◌^◌, ◌<◌, ◌≤◌, Bool, true, false, cond, ltb, eqb, ◌⊎◌, ⊎_elim, sym, refl, ap, ◌∙◌, arith, Option, Some, None, is_some}
+-- What one word says of a row, with nothing unpacked: that the row is committed, and that it has a partner.
+use Rattle.std.proofs.Common.{◌≡◌, ℕ, ◌+◌, ◌*◌, ◌/◌, ◌%◌, ◌^◌, ◌<◌, ◌≤◌, true, false, ltb, ◌⊎◌, ⊎_elim, sym, refl, ap, ◌∙◌, arith, Option, Some, None, is_some}
 use Rattle.std.specs.Prelude.{unwrap_or, option_and_then}
 use Rattle.std.proofs.lemmas.Bool.{false≢true, true≢false, lt-ltb, le-ltb}
 use Rattle.protocol_values.specs.declared.Row.{Row}
-use Rattle.protocol_values.specs.declared.Atom.{Atom}
 use Rattle.protocol_values.specs.declared.Cell.{Cell}
 use Rattle.protocol_values.specs.declared.Cell.TheVariants.{Fresh, Waiting, Claimed, Synched, Taken}
-use Rattle.protocol_values.specs.declared.Direction.TheVariants.{Never, Send, Recv, Always, OnNack, OnEnd}
 use Rattle.protocol_values.specs.declared.Joined.{Joined}
-use Rattle.protocol_values.specs.declared.NackName.{NackName}
-use Rattle.protocol_values.specs.declared.Offer.{Offer}
 use Rattle.protocol_values.specs.Values.{joined_of}
-use Rattle.protocol_values.specs.Words.{field, partner_bits, joined_bits, cell_of, cell_word, base_of, offer_of, IsCellInRange, IsJoinedInRange}
-use Rattle.protocol_values.proofs.WordLemmas.{cell_of-cell_word, cell_of-zero, cell_word-cell_of, offer_of-fields}
+use Rattle.protocol_values.specs.Words.{field, partner_bits, joined_bits, cell_of, cell_word, IsCellInRange, IsJoinedInRange}
+use Rattle.protocol_values.proofs.WordLemmas.{cell_of-cell_word, cell_of-zero, cell_word-cell_of}
 use Rattle.protocol_ledger.specs.CellWords.{joined_by, partner_by}
-use Rattle.protocol_ledger.specs.Tables.{Table, is_row, is_fresh, cell_at, joined_at, word_at, count_at, offer_at}
-use Rattle.protocol_ledger.specs.Ledgers.{sends, is_send}
+use Rattle.protocol_ledger.specs.Tables.{Table, is_row, is_fresh, cell_at, joined_at, word_at}
 use Rattle.protocol_ledger.proofs.Linking.{cases_Option}
-use Rattle.protocol_ledger.proofs.Readings.{cell_inside, offer_counted}
+use Rattle.protocol_ledger.proofs.Readings.{cell_inside}
 
 -- A ROW WITH A PARTNER
 
@@ -132,25 +126,3 @@ committed_word t r row opened = ⊎_elim
     in_cell Claimed w is k = sym (le-ltb 2 (w % 8) (omega (arith, is)))
     in_cell (Synched j) w is k = let bits = bits_of 3 j.own j.stamp j.partner (omega arith) in sym (lt-ltb 2 (w % 8) (omega (arith, ap (λ n. n % 8) is, bits)))
     in_cell (Taken j) w is k = let bits = bits_of 4 j.own j.stamp j.partner (omega arith) in sym (lt-ltb 2 (w % 8) (omega (arith, ap (λ n. n % 8) is, bits)))
-
--- AN OFFER that is there is a send where its first word says so
-pub send_word : (t : Table) (r : Row) (n : ℕ) → is_some (offer_at t r n) ≡ true → is_send (offer_at t r n) ≡ eqb (word_at t r (2 + 4 * n) % 8) 1
-unfolding offer_at
-send_word t r n there =
-    let first = word_at t r (2 + 4 * n) in
-    let second = word_at t r (3 + 4 * n) in
-    let third = word_at t r (4 + 4 * n) in
-    let fourth = word_at t r (5 + 4 * n) in
-    let is : offer_at t r n ≡ offer_of first second third fourth = ap (λ b. cond b (offer_of first second third fourth) None) (lt-ltb n (count_at t r) (offer_counted t r n there)) in
-    ap is_send is
-    ∙ ap is_send (offer_of-fields first second third fourth (sym (ap (λ (o : Option Offer). is_some o) is) ∙ there))
-    ∙ by_state _ _ _ _ _ _ _ (eqb (field first 0 3) 1) (eqb (field first 0 3) 2) (eqb (field first 0 3) 3) (eqb (field first 0 3) 4) (eqb (field first 0 3) 5)
-    ∙ ap (λ k. eqb k 1) (let low : field first 0 3 ≡ first % 8 = omega arith in low)
-  where
-    by_state : (chan atoms : ℕ) (nack : NackName) (thread : ℕ) (a b c : Atom) (p q x y z : Bool) → sends (base_of (cond p (Send chan atoms) (cond q (Recv chan) (cond x (Always atoms) (cond y (OnNack nack) (cond z (OnEnd thread) Never))))) a b c) ≡ p
-    by_state chan atoms nack thread a b c true q x y z = refl
-    by_state chan atoms nack thread a b c false true x y z = refl
-    by_state chan atoms nack thread a b c false false true y z = refl
-    by_state chan atoms nack thread a b c false false false true z = refl
-    by_state chan atoms nack thread a b c false false false false true = refl
-    by_state chan atoms nack thread a b c false false false false false = refl

@@ -3,7 +3,7 @@
 ghost use Rattle.std.specs.Prelude.{◌≡◌, ◌≤◌, ◌<◌, ◌++◌, IfOk, IsOk, IfSome, IfNone, Some, true, false, is_some, option_and_then, option_to_list};
 ghost use Rattle.std.specs.List.{flat_map};
 ghost use Rattle.protocol_ledger.specs.Tables.{all_rows, rows_below, cell_at, is_fresh, is_row, word_at, joined_at, offer_at, namer_of, is_partner};
-ghost use Rattle.protocol_ledger.specs.Ledgers.{alone_by, pair_by, commit_by, commit_named, named_at, commit_at, told_at, is_send, commits_of, pending_of, is_pending, ledger_of, IsLawful};
+ghost use Rattle.protocol_ledger.specs.Ledgers.{alone_by, pair_by, commit_by, commit_named, named_at, commit_at, told_at, commits_of, pending_of, is_pending, ledger_of, IsLawful};
 ghost use Rattle.protocol_ledger.specs.Sheets.{table_of};
 ghost use Rattle.protocol_ledger.specs.CellWords.{joined_by, partner_by};
 
@@ -58,88 +58,54 @@ impl Sheet {
         }
     }
 
-    /// Whether a row with this word received from a row that is committed, which tells the commit: so each commit is
-    /// told once. Of its offer one word is read.
+    /// Adds the commit that a row with this word tells, if it tells one. A row that sent tells it by its word and its
+    /// offer. One that received leaves it to a partner who is committed, so each commit is told once.
     #[inline(always)]
-    fn is_received(&self, row: Row, word: u64) -> bool
+    fn tell_row(&self, row: Row, word: u64, commits: &mut Vec<Commit>) -> Result<(), AllocError>
         requires lawful { IsLawful (ledger_of (table_of self.now)) }
         requires row { is_row (table_of self.now) row ≡ true }
         requires word { word ≡ word_at (table_of self.now) row 0 }
-        ensures told { result ≡ true → told_at (joined_at (table_of self.now)) (offer_at (table_of self.now)) row ≡ None }
-        ensures tells { result ≡ false → told_at (joined_at (table_of self.now)) (offer_at (table_of self.now)) row ≡ named_at (joined_at (table_of self.now)) (offer_at (table_of self.now)) row }
+        ensures { IsOk result → commits.new.items ≡ commits.old.items ++ option_to_list (told_at (joined_at (table_of self.now)) (offer_at (table_of self.now)) row) }
     {
         if !is_of_pair(word) {
-            return false;
+            return self.tell_named(row, commits);
         }
-        let (own, partner, _) = read_pair(word);
-        if self.is_send(row, own) {
-            return false;
+        let (own, partner, stamp) = read_pair(word);
+        match self.known_offer(row, own).base {
+            Base::Send(chan, msg) => {
+                commits.push(Commit::Pair {
+                    sender: (row, own),
+                    receiver: partner,
+                    chan,
+                    msg,
+                    stamp,
+                })?;
+                Ok(())
+            }
+            _ if self.is_committed(partner.0) => Ok(()),
+            _ => self.tell_named(row, commits),
         }
-        self.is_committed(partner.0)
     }
 
-    /// The commit that a row with this word names.
-    fn named(&self, row: Row, word: u64) -> Option<Commit>
-        requires lawful { IsLawful (ledger_of (table_of self.now)) }
-        requires row { is_row (table_of self.now) row ≡ true }
-        requires word { word ≡ word_at (table_of self.now) row 0 }
-        ensures { result ≡ named_at (joined_at (table_of self.now)) (offer_at (table_of self.now)) row }
+    /// Adds the commit that the row names, if it names one.
+    #[inline(never)]
+    fn tell_named(&self, row: Row, commits: &mut Vec<Commit>) -> Result<(), AllocError>
+        requires { IsLawful (ledger_of (table_of self.now)) }
+        ensures { IsOk result → commits.new.items ≡ commits.old.items ++ option_to_list (named_at (joined_at (table_of self.now)) (offer_at (table_of self.now)) row) }
     {
-        if is_of_pair(word) {
-            self.named_by_pair(row, word)
-        } else {
-            self.named_by_any(row)
+        if let Some(commit) = self.named(row) {
+            commits.push(commit)?;
         }
+        Ok(())
     }
 
     /// The commit that the row names, whether it has a partner or none.
-    #[inline(never)]
-    fn named_by_any(&self, row: Row) -> Option<Commit>
+    fn named(&self, row: Row) -> Option<Commit>
         requires { IsLawful (ledger_of (table_of self.now)) }
         ensures { result ≡ named_at (joined_at (table_of self.now)) (offer_at (table_of self.now)) row }
     {
         let joined = self.joined(row)?;
         self.commit_named(row, joined)
-    }
-
-    /// The commit that a row with a partner names, by its word.
-    fn named_by_pair(&self, row: Row, word: u64) -> Option<Commit>
-        requires lawful { IsLawful (ledger_of (table_of self.now)) }
-        requires row { is_row (table_of self.now) row ≡ true }
-        requires word { word ≡ word_at (table_of self.now) row 0 }
-        requires pair { is_some (partner_by word) ≡ true }
-        ensures { result ≡ named_at (joined_at (table_of self.now)) (offer_at (table_of self.now)) row }
-    {
-        let (own, partner, stamp) = read_pair(word);
-        if self.is_send(row, own) {
-            return self.sent(row, own, partner, stamp);
-        }
-        self.named_by_any(row)
-    }
-
-    /// The commit of a row that offered a send, and whose partner took it.
-    fn sent(&self, row: Row, own: u8, partner: (Row, u8), stamp: u32) -> Option<Commit>
-        requires { is_send (offer_at (table_of self.now) row own) ≡ true }
-        ensures { result ≡ commit_named (offer_at (table_of self.now)) row (record { own = own; partner = Some partner; stamp = stamp }) }
-    {
-        match self.known_offer(row, own).base {
-            Base::Send(chan, msg) => Some(Commit::Pair {
-                sender: (row, own),
-                receiver: partner,
-                chan,
-                msg,
-                stamp,
-            }),
-            _ => None,
-        }
-    }
-
-    /// Whether an offer that a row is known to have is a send, by the first of its words.
-    fn is_send(&self, row: Row, n: u8) -> bool
-        requires { is_some (offer_at (table_of self.now) row n) ≡ true }
-        ensures { result ≡ is_send (offer_at (table_of self.now) row n) }
-    {
-        self.word(row, 2 + 4 * usize::from(n)) % 8 == 1
     }
 
     /// Whether a row that is known to be opened is committed, by the state in its word.
@@ -227,13 +193,14 @@ impl Sheet {
         Ok(commits)
     }
 
-    /// Adds the commits of a thread, row by row. No row behind a Fresh one is committed.
+    /// Adds the commits of a thread, row by row. No row behind a Fresh one is committed, nor one that has no words.
     fn tell(&self, thread: u8, commits: &mut Vec<Commit>) -> Result<(), AllocError>
         requires lawful { IsLawful (ledger_of (table_of self.now)) }
         requires thread { thread < self.now.threads }
         ensures { IsOk result → commits.new.items ≡ commits.old.items ++ commits_of (rows_below thread self.now.rows) (joined_at (table_of self.now)) (offer_at (table_of self.now)) }
     {
-        for sync in 0..self.rows {
+        let rows = usize::from(self.layout.lens[usize::from(thread)]);
+        for sync in 0..rows {
             let row = Row {
                 thread,
                 sync: sync as u32,
@@ -242,12 +209,7 @@ impl Sheet {
             if word == 0 {
                 return Ok(());
             }
-            if self.is_received(row, word) {
-                continue;
-            }
-            if let Some(commit) = self.named(row, word) {
-                commits.push(commit)?;
-            }
+            self.tell_row(row, word, commits)?;
         }
         Ok(())
     }

@@ -159,14 +159,12 @@ impl Sheet {
         self.words[at]
     }
 
-    /// The word of the row's cell, 0 where its thread has no words for it.
+    /// The word of the cell of a row that has words.
     pub(crate) fn cell_word(&self, row: Row) -> u64
-        requires { is_row (table_of self.now) row ≡ true }
+        requires thread { row.thread < self.now.threads }
+        requires words { HasWords self.now.layout row }
         ensures { result ≡ word_at (table_of self.now) row 0 }
     {
-        if !self.has_words(row) {
-            return 0;
-        }
         let at = self.place(row, 0);
         self.words[at]
     }

@@ -1,33 +1,35 @@
-use Rattle.std.proofs.Common.{arith, inl, inr, rules, subst, sym, ◌≡◌, ℕ}
+use Rattle.std.proofs.Common.{arith, inr, rules, subst, sym, ◌≡◌, ℕ}
 use Rattle.std.specs.Prelude.{IsTrue, Some, None, get_or}
 use Rattle.std.proofs.lemmas.Bool.{true≢false}
 use Rattle.meet_scan.specs.Searches.{LacksAt, Lists}
 use Rattle.meet_scan.specs.declared.found.Found.TheVariants.{Alone, Already, Left, Met}
 use Rattle.meet_scan.proofs.Growing.{grows_nothing, stands_more}
 use Rattle.meet_scan.proofs.Making.{found_made, none_made}
-use Rattle.meet_scan.proofs.Reading.{none_listed, stands_by_no_other}
-use Rattle.meet_scan.proofs.Scanning.{comes_left, from_again, goes_nothing, goes_then, have_more, held_more, lacking_alone, lack_more, left_made, left_next, more_nothing, published_more, read_lacks, read_listed, then_comes, then_none}
+use Rattle.meet_scan.proofs.Reading.{none_listed, stands_by_no_other, stands_by_none}
+use Rattle.meet_scan.proofs.Scanning.{comes_left, from_again, goes_nothing, goes_then, have_more, held_more, lack_more, left_behind, left_made, left_next, more_nothing, published_more, read_lacks, read_listed, then_comes, then_none}
 use Rattle.meet_scan.proofs.scan.scan_offers.Goals as goal
 
 pub loop-n-init : goal.loop-n-init
 loop-n-init g c = (goes_nothing c.args.cells.now c.args.directory.now c.args.row c.args.pass.now c.args.scan.now c.requires.here.0 c.requires.sits.0, λ free k low. absurd (omega arith), λ claimed. absurd (true≢false (sym claimed)))
 
--- the row has no such offer
-pub loop-n-preserved-in_default : goal.loop-n-preserved-in_default
-loop-n-preserved-in_default g c =
+-- the row has no such offer, and none behind it
+pub returns-in_default-clause-found : goal.returns-in_default-clause-found
+returns-in_default-clause-found g c =
     let i = c.loop-n.invariant in
     let s = c.args.pass.now.seen in
     let t = c.loop-n.pass.seen in
-    let v = c.loop-n.scan.me.0 in
     let r = c.args.row in
     let none : LacksAt c.args.directions.now c.loop-n.n =
     subst (LacksAt c.args.directions.now) c.from.ensures (none_listed (get_or c.args.directions.now c.from.result None) c.in_default.not-Some) in
-    let lacks = read_lacks s r c.args.directions.now c.loop-n.n c.loop-n-test.true c.requires.read none in (
-      i.0,
-      λ free. left_next v v s t t r (IsTrue c.args.alone) c.loop-n.n (more_nothing v) (grows_nothing t) (i.1 free) (inl (lack_more s t r c.loop-n.n i.0.grows lacks))
-          (λ _. lacking_alone _ _ s r c.loop-n.n c.requires.here.0.4 lacks),
-      i.2,
-    )
+    let lacks = lack_more s t r c.loop-n.n i.0.grows (read_lacks s r c.args.directions.now c.loop-n.n c.loop-n-test.true c.requires.read none) in
+    then_comes t r _ c.loop-n.is_claimed c.then_some.result c.then_some.ensures
+    (λ free. (
+      (λ k low. left_behind c.loop-n.scan.me.0 t r c.loop-n.n lacks (λ k before. (i.1 free k before).0) k),
+      (λ asked. stands_by_none s r c.args.directions.now c.loop-n.n none (λ k before. (i.1 free k before).1 asked)),
+    ))
+
+pub returns-in_default-clause-again : goal.returns-in_default-clause-again
+returns-in_default-clause-again g c = then_none c.loop-n.is_claimed c.then_some.result c.then_some.ensures c.loop-n.invariant.2
 
 pub loop-n-preserved-in-Some-Left : goal.loop-n-preserved-in-Some-Left
 loop-n-preserved-in-Some-Left g c =
@@ -80,7 +82,7 @@ pub returns-clause-found : goal.returns-clause-found
 returns-clause-found g c =
     let i = c.loop-n.invariant in
     let s = c.args.pass.now.seen in
-    then_comes c.loop-n.pass.seen c.args.row _ c.loop-n.is_claimed c.then_some.result c.then_some.ensures
+    then_comes c.loop-n.pass.seen c.args.row _ c.loop-n.is_claimed c.then_some-2.result c.then_some-2.ensures
     (λ free. (
       (λ k low. (i.1 free k (omega (arith, c.loop-n-test.false))).0),
       (λ asked. stands_by_no_other s c.args.row c.args.directions.now c.loop-n.n c.loop-n-test.false (λ k low. (i.1 free k low).1 asked)),
@@ -96,4 +98,4 @@ pub returns-in-Some-Already-clause-made : goal.returns-in-Some-Already-clause-ma
 returns-in-Some-Already-clause-made g c = found_made c.args.row c.in-Some-Already.field-0 Already c.args.pass.now.made c.loop-n.pass.made c.scan_offer.new.pass.made c.in-Some-Already.field-0-is c.loop-n.invariant.0.made c.in-Some-Already.ensures.made
 
 pub returns-clause-again : goal.returns-clause-again
-returns-clause-again g c = then_none c.loop-n.is_claimed c.then_some.result c.then_some.ensures c.loop-n.invariant.2
+returns-clause-again g c = then_none c.loop-n.is_claimed c.then_some-2.result c.then_some-2.ensures c.loop-n.invariant.2

@@ -1,26 +1,24 @@
 use Rattle.std.proofs.Common.{arith, inl, inr, rules, subst, sym, ◌≡◌, ◌∙◌, ℕ}
 use Rattle.std.specs.Prelude.{Some, None, get_or}
-use Rattle.meet_scan.specs.Leaving.{IsDoneWith, IsHeldUpBy, IsTriedFor}
 use Rattle.meet_scan.specs.Searches.{LacksAt, Lists}
 use Rattle.meet_scan.specs.declared.found.Found.TheVariants.{Already, Left, Met}
 use Rattle.meet_scan.proofs.Growing.{grows_nothing}
 use Rattle.meet_scan.proofs.Making.{found_made, none_made}
 use Rattle.meet_scan.proofs.Reading.{none_listed}
-use Rattle.meet_scan.proofs.Scanning.{comes_left, from_again, goes_then, have_more, held_by_more, lack_more, left_made, more_nothing, published_more, read_lacks, read_listed, tried_in_lane, tried_next, tried_nowhere}
+use Rattle.meet_scan.proofs.Scanning.{comes_left, from_again, goes_then, have_more, held_by_more, lack_more, left_made, more_nothing, published_more, read_lacks, read_listed, tried_behind, tried_in_lane, tried_next, tried_nowhere}
 use Rattle.meet_scan.proofs.scan.scan_wished.Goals as goal
 
--- the row has no such offer
-pub loop-n-preserved-in_default : goal.loop-n-preserved-in_default
-loop-n-preserved-in_default g c =
+-- the row has no such offer, and none behind it
+pub returns-in_default-clause-tried : goal.returns-in_default-clause-tried
+returns-in_default-clause-tried g c low apart n few =
     let i = c.loop-n.invariant in
     let s = c.args.pass.now.seen in
     let t = c.loop-n.pass.seen in
-    let v = c.loop-n.scan.me.0 in
     let r = c.args.row in
     let none : LacksAt c.args.directions.now c.loop-n.n =
     subst (LacksAt c.args.directions.now) c.from.ensures (none_listed (get_or c.args.directions.now c.from.result None) c.in_default.not-Some) in
-    let lacks = read_lacks s r c.args.directions.now c.loop-n.n c.loop-n-test.true c.requires.read none in
-    (i.0, tried_next c.args.cells.now v v s t t r c.args.first c.loop-n.n (more_nothing v) (grows_nothing t) i.1 (inl (lack_more s t r c.loop-n.n i.0.grows lacks)))
+    let lacks = lack_more s t r c.loop-n.n i.0.grows (read_lacks s r c.args.directions.now c.loop-n.n c.loop-n-test.true c.requires.read none) in
+    tried_behind c.args.cells.now c.loop-n.scan.me.0 s t r c.args.first c.loop-n.n lacks i.1 n
 
 -- the offer has no lane
 pub loop-n-preserved-in_default-lanes : goal.loop-n-preserved-in_default-lanes

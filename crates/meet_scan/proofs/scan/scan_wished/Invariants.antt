@@ -1,4 +1,3 @@
-use Rattle.std.proofs.Common.{◌≡◌, ◌≢◌, ◌<◌, ℕ}
 use Rattle.meet_scan.proofs.Scanning.{AreTried, Goes}
 use Rattle.meet_scan.proofs.scan.scan_wished.Given as goal
 

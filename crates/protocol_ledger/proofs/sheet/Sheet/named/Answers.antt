@@ -3,7 +3,7 @@ use Rattle.std.specs.Prelude.{option_and_then}
 use Rattle.protocol_ledger.specs.Ledgers.{commit_named}
 use Rattle.protocol_ledger.specs.Tables.{offer_at}
 use Rattle.protocol_ledger.specs.Sheets.{table_of}
-use Rattle.protocol_ledger.proofs.sheet.Sheet.named_by_any.Goals as goal
+use Rattle.protocol_ledger.proofs.sheet.Sheet.named.Goals as goal
 
 pub returns-in_err-joined : goal.returns-in_err-joined
 returns-in_err-joined c =
