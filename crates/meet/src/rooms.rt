@@ -283,6 +283,24 @@ impl<R: Wait, M: Resident> Rooms<'_, R, M> {
         lanes.in_hand.clear();
         put
     }
+
+    /// Puts the entries in hand back, if there are any: mostly the first that was taken is met. Without memory those that are
+    /// left are lost.
+    #[inline(always)]
+    pub(crate) fn put_any_back(&self, pass: &mut Pass<M>, lanes: &mut RoomsPass, at: usize)
+        requires cells { IsPassOf self.now.cells.now pass.old }
+        requires lanes { Serves self.now.rooms.now lanes.old.passes.items × (at < length self.now.rooms.now) }
+        ensures here { IsPassOf self.now.cells.now pass.new }
+        ensures grows { Grows pass.old.seen pass.new.seen }
+        ensures looks { OnlyLooks pass.old pass.new }
+        ensures lanes { Serves self.now.rooms.now lanes.new.passes.items }
+        ensures more { EachPutsOn lanes.old.passes.items lanes.new.passes.items }
+    {
+        if lanes.in_hand.entries().is_empty() {
+            return;
+        }
+        let _ = self.put_back(pass, lanes, at);
+    }
 }
 
 /// Whether the room's lane is to be swept.
