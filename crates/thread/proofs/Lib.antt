@@ -23,3 +23,4 @@ pub mod Walks
 pub mod Printing
 pub mod Alike
 pub mod Same
+pub mod Rising
