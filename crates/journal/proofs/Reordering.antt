@@ -1,5 +1,5 @@
 -- A state stands after the commits of a run in whatever order they are a run.
-use Rattle.std.proofs.Common.{◌≡◌, ◌≤◌, ℕ, List, Option, Some, None, Contains, slice_get, slice_index_or, inl, inr, ⊎_elim, sym, subst}
+use Rattle.std.proofs.Common.{◌≡◌, ℕ, List, Option, Some, None, Contains, slice_index_or, inl, inr, ⊎_elim, sym, subst}
 use Rattle.std.specs.Prelude.{IsPermutation}
 use Rattle.std.proofs.lemmas.List.Sorted.{Contains-permutation, IsPermutation-sym}
 use Rattle.script_tree.specs.Processes.{Proc}
@@ -9,7 +9,7 @@ use Rattle.journal_replay.specs.declared.state.State.{State}
 use Rattle.thread_stand.specs.declared.strand.Strand.{Strand}
 use Rattle.journal_replay.specs.Replays.{StandsAfter}
 use Rattle.journal_replay.specs.Runs.{Config, CountsOf, IsGreatest, IsRun, Starts, config_of}
-use Rattle.journal_replay.specs.Standing.{FiresOf, KnowsNack, Stands, StandsIn, StrandStands}
+use Rattle.journal_replay.specs.Standing.{FiresOf, KnowsNack, StandsIn, StrandStands}
 
 module _ (earlier journal : List Commit) (moved : IsPermutation earlier journal) where
   still : (d : Commit) → Contains journal d → Contains earlier d

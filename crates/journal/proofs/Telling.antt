@@ -1,8 +1,8 @@
 -- What an opening and machines tell of each thread is known where its run leads.
-use Rattle.std.proofs.Common.{get_or-set_same, get_or-set_other, ◌≡◌, ◌*◌, ◌+◌, ◌<◌, ◌≤◌, ℕ, zero, suc, Bool, true, false, cond, ltb, List, [], ◌∷◌, ◌++◌, length, replicate, set, get_or, slice_get, Option, Some, None, Contains, IfSome, refl, sym, ap, ◌∙◌, subst, arith, inl, inr, ⊎_elim}
+use Rattle.std.proofs.Common.{◌≡◌, ◌≢◌, ◌*◌, ◌+◌, ◌<◌, ◌≤◌, ℕ, zero, suc, Bool, true, false, cond, ltb, List, [], ◌∷◌, ◌++◌, length, replicate, get_or, slice_get, Option, Some, None, IfSome, refl, sym, ap, ◌∙◌, subst, arith, inl, inr, ⊎_elim}
 use Rattle.std.proofs.lemmas.Bool.{cases_eq, cases_lt, le-ltb, lt-ltb}
 use Rattle.std.proofs.lemmas.Option.{slice_get_within}
-use Rattle.std.proofs.lemmas.List.{length-set, length_push}
+use Rattle.std.proofs.lemmas.List.{length_push}
 use Rattle.std.proofs.lemmas.List.Sorted.{Contains-permutation, IsPermutation-sym}
 use Rattle.std.specs.Prelude.{IsPermutation, option_and_then}
 use Rattle.script_tree.specs.Processes.{Proc}
@@ -11,10 +11,8 @@ use Rattle.journal_replay.specs.Lines.{RunTheirs}
 use Rattle.thread.specs.After.{Chosen}
 use Rattle.thread.specs.Machines.{Thread}
 use Rattle.protocol_values.specs.declared.Commit.{Commit}
-use Rattle.protocol_values.specs.declared.NackName.{NackName}
-use Rattle.protocol_values.specs.Commits.{stamp_of}
 use Rattle.protocol.specs.Ledgers.{IsLawful, Ledger}
-use Rattle.protocol.specs.Openings.{HadStarted, Opening, thread_in}
+use Rattle.protocol.specs.Openings.{Opening, thread_in}
 use Rattle.protocol_ledger.specs.declared.opening.Life.{Life}
 use Rattle.protocol_ledger.specs.declared.opening.Life.TheVariants.{Ended, Running, Unstarted}
 use Rattle.protocol_ledger.specs.declared.opening.NackState.{NackState}
@@ -26,7 +24,7 @@ use Rattle.journal_order.proofs.Leading.{tells-thread}
 use Rattle.thread_stand.specs.declared.strand.Known.{Known}
 use Rattle.journal_replay.proofs.Lists.{nothing-there, slice_get-first, slice_get-last, slice_get-more}
 use Rattle.journal_replay.specs.Gathering.{AreKnown, HasGone, IsKnown, KnowsLast}
-use Rattle.journal_replay.specs.Runs.{Config, CountsOf, HasThread, IsGreatest, Starts, config_of}
+use Rattle.journal_replay.specs.Runs.{Config, CountsOf, IsGreatest, Starts, config_of}
 use Rattle.journal_replay.specs.Starting.{HasEnded}
 use Rattle.journal_replay.specs.Standing.{KnowsNack}
 use Rattle.journal.specs.Concluding.{AreGone, AreStanding, EachKnownBy, KnownBy, RunTrees, fired_in, last_if, last_in}
@@ -61,24 +59,23 @@ known-more threads states machines known m k before is = (
 -- what is known of one nack more
 pub record FiredSo (states : List NackState) (t k : ℕ) (fired : List (Option ℕ)) : Type 0 where
   pub few : k ≤ 64
-  pub size : length fired ≡ 256
   pub done : (n : ℕ) → n < k → get_or fired n None ≡ fired_in states t n
   pub rest : (n : ℕ) → k ≤ n → get_or fired n None ≡ None
 
 pub fired-none : (states : List NackState) (t : ℕ) → FiredSo states t 0 (replicate 256 None)
-fired-none states t = record { few = omega arith; size = refl; done = λ n lt. absurd (omega (arith, lt)); rest = λ n le. nothing-there n }
+fired-none states t = record { few = omega arith; done = λ n lt. absurd (omega (arith, lt)); rest = λ n le. nothing-there n }
 
-pub fired-more : (states : List NackState) (t k : ℕ) (fired : List (Option ℕ)) (stamp : Option ℕ) → FiredSo states t k fired → k < 64 → stamp ≡ option_and_then fired_as (slice_get states (t * 64 + k)) → FiredSo states t (k + 1) (set fired k stamp)
-fired-more states t k fired stamp so low is = record {
+pub fired-more : (states : List NackState) (t k : ℕ) (fired now : List (Option ℕ)) → FiredSo states t k fired → k < 64 → get_or now k None ≡ option_and_then fired_as (slice_get states (t * 64 + k)) →
+    ((n : ℕ) → n ≢ k → get_or now n None ≡ get_or fired n None) → FiredSo states t (k + 1) now
+fired-more states t k fired now so low here others = record {
   few = omega (arith, low);
-  size = length-set fired k stamp ∙ so.size;
   done = λ n lt. ⊎_elim
       (λ e.
-      ap (λ (i : ℕ). get_or (set fired k stamp) i None) e ∙ get_or-set_same fired k stamp None (omega (arith, so.size, low)) ∙ is
+      ap (λ (i : ℕ). get_or now i None) e ∙ here
       ∙ sym (ap (λ (b : Bool). cond b (option_and_then fired_as (slice_get states (t * 64 + k))) None) (lt-ltb k 64 low)) ∙ ap (fired_in states t) (sym e))
-      (λ ne. get_or-set_other fired k n stamp None ne ∙ so.done n (omega (arith, lt, ne)))
+      (λ ne. others n ne ∙ so.done n (omega (arith, lt, ne)))
       (cases_eq n k);
-  rest = λ n le. get_or-set_other fired k n stamp None (λ e. omega (arith, le, e)) ∙ so.rest n (omega (arith, le));
+  rest = λ n le. others n (λ e. omega (arith, le, e)) ∙ so.rest n (omega (arith, le));
 }
 
 pub fired-all : (states : List NackState) (t k : ℕ) (fired : List (Option ℕ)) → FiredSo states t k fired → 64 ≤ k → (n : ℕ) → get_or fired n None ≡ fired_in states t n

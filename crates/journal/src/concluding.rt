@@ -19,12 +19,10 @@ use protocol_values::Commit;
 use script_tree::Proc;
 use std::alloc::{AllocError, Global};
 use thread::Machine;
+use thread_stand::Fired;
 
 /// How many nacks a thread can have.
 const NACKS: usize = 64;
-
-/// One place for each number that a nack could have.
-const PLACES: usize = 256;
 
 /// The record of a ledger of these processes, by the machines that are at hand: one that stands after some of its
 /// thread's results is given the rest, and what the ledger tells of its end is not looked for among the commits. So it
@@ -139,7 +137,7 @@ fn known_by(
         known.push(Known {
             machine,
             last: last_in(opening, thread),
-            fired: fired_in(opening, thread),
+            fired: fired_in(alloc, opening, thread)?,
         })?;
     }
     Ok(known)
@@ -156,15 +154,17 @@ fn last_in(opening: &Opening, thread: usize) -> Option<u32>
 }
 
 /// Of each of the thread's nacks that is fired the stamp of the commit that fired it.
-fn fired_in(opening: &Opening, thread: usize) -> [Option<u32>; PLACES]
+fn fired_in(alloc: Global, opening: &Opening, thread: usize) -> Result<Fired, AllocError>
     requires { thread < 64 }
-    ensures { (k : ℕ) → slice_index_or result k None ≡ fired_in opening.now.nacks.items thread k }
+    ensures { IfOk result (λ fired. (k : ℕ) → slice_index_or fired k None ≡ fired_in opening.now.nacks.items thread k) }
 {
-    let mut fired = [None; PLACES];
+    let mut fired = Fired::new(alloc);
     for k in 0..NACKS {
-        fired[k] = fired_at(opening, thread * NACKS + k);
+        if let Some(stamp) = fired_at(opening, thread * NACKS + k) {
+            fired.add(k as u8, stamp)?;
+        }
     }
-    fired
+    Ok(fired)
 }
 
 /// The stamp of the commit that fired the nack at this place.

@@ -16,8 +16,6 @@ use Rattle.protocol_values.specs.declared.Offer.{Offer}
 use Rattle.protocol_values.specs.declared.Row.{Row}
 use Rattle.protocol_values.specs.declared.RowResult.{RowResult}
 use Rattle.protocol_values.specs.Commits.{gives, stamp_of}
-use Rattle.thread_stand.specs.declared.end.End.{End}
-use Rattle.thread_stand.specs.declared.end.End.TheVariants as end
 use Rattle.thread_stand.specs.declared.strand.Strand.{Strand}
 use Rattle.thread_stand.specs.Strands.{Grows, end_stamp, next_offer, stamp_from}
 use Rattle.journal_replay.specs.declared.threads.Threads.{Threads}

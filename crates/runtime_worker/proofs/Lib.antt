@@ -4,7 +4,6 @@ pub mod Machines
 pub mod Processes
 pub mod Ranging
 pub mod Resting
-pub mod Rising
 pub mod Spawns
 pub mod Startings
 pub mod Turning

@@ -37,7 +37,7 @@ use Rattle.cell_table.specs.Rule.{IsReady}
 use Rattle.cell_table.specs.Sight.{AreSettled, Has, IsDraft, Redrafts, WasSettled, see_bound}
 use Rattle.runtime_worker.specs.declared.resident.Suspended.{Suspended}
 use Rattle.runtime_worker.proofs.Processes.{new_first, offers_as}
-use Rattle.runtime_worker.proofs.Rising.{after_rises, Rises, rises_below, rises_once}
+use Rattle.thread.proofs.Rising.{after_rises, Rises, rises_below, rises_once}
 use Rattle.runtime_worker.specs.Widths.{AllOfferAtMost}
 use Rattle.runtime_worker.specs.Machines.{AreBound, AreFirst, AreNew, IsNow, IsTable, LeavesOthers, OnlyBinds, StandsFor, SyncsHaveWords, doings}
 

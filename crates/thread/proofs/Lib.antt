@@ -20,3 +20,7 @@ pub mod Nacks
 pub mod Crossing
 pub mod Spawning
 pub mod Walks
+pub mod Printing
+pub mod Alike
+pub mod Same
+pub mod Rising

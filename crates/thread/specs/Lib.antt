@@ -12,3 +12,5 @@ pub mod Reaches
 pub mod Machines
 pub mod Places
 pub mod Ranges
+pub mod Printing
+pub mod Alike

@@ -1,6 +1,7 @@
 -- A machine, as it is seen from outside: its process, what was given to it, and what it came to.
 use Rattle.std.specs.Prelude.{◌≡◌, ◌<◌, ℕ, Bool, List, [], length, ⊤}
 use Rattle.event.specs.Tree.{Tree, offers, scope_nacks}
+use Rattle.thread_code.specs.declared.Code.{Code}
 use Rattle.script_tree.specs.Processes.{IsProc, Proc}
 use Rattle.script_tree.specs.Trees.{block_of}
 use Rattle.script_tree.specs.declared.tree.Block.{Block}
@@ -21,6 +22,8 @@ pub data Phase : Type 0 where
 
 pub record Thread : Type 0 where
   pub body : Block
+  -- what runs
+  pub code : Code
   pub variables : ℕ
   pub thread : ℕ
   pub results : List Chosen
@@ -78,6 +81,7 @@ Tells turn phase = ⊥
 -- the same process runs as the same thread
 pub record SameProcess (old new : Thread) : Type 0 where
   pub body : new.body ≡ old.body
+  pub code : new.code ≡ old.code
   pub variables : new.variables ≡ old.variables
   pub thread : new.thread ≡ old.thread
 

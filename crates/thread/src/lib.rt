@@ -6,10 +6,12 @@ ghost use Rattle.std.specs.Prelude.{◌<◌, ◌≤◌};
 ghost use Rattle.script_tree.specs.Limits.{BlockIsIn, Known};
 ghost use Rattle.script_tree.specs.Trees.{block_of};
 ghost use Rattle.thread.specs.Machines.{IsAfter, Thread, offers_in};
+ghost use Rattle.thread.specs.Printing.{DoesBehind};
 ghost use Rattle.thread.specs.Ranges.{OffersAreIn, ResultsAreIn};
 ghost use Rattle.thread.specs.contracts.machine.Machine as machine;
 
 mod commit;
+mod hashing;
 pub mod log;
 mod machine;
 mod memory;
@@ -25,6 +27,11 @@ pub use machine::{Machine, Turn};
 /// and its text do.
 pub fn offers_are_in_range()
     ensures { (m : Thread) (k : Known) → IsAfter m → m.thread < 64 → k.processes ≤ 64 → BlockIsIn k (block_of m.body) → ResultsAreIn m.results → OffersAreIn (offers_in m.phase) }
+{}
+
+/// What was printed before stands in front of what a process prints, and changes nothing else.
+pub fn printing_law()
+    ensures { DoesBehind }
 {}
 
 /// A machine may be moved to another thread.

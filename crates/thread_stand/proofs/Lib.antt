@@ -5,3 +5,4 @@ pub mod Forgetting
 pub mod Variables
 pub mod Passing
 pub mod Seeing
+pub mod Noting

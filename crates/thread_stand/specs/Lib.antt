@@ -7,3 +7,4 @@ pub mod Walks
 pub mod WalkEnds
 pub mod Ends
 pub mod Strands
+pub mod Fired

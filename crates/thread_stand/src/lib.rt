@@ -3,6 +3,7 @@
 #![tactic(auto)]
 
 mod end;
+mod fired;
 mod laws;
 mod stand;
 mod strand;
@@ -12,6 +13,7 @@ mod walk;
 mod walking;
 
 pub use crate::end::End;
+pub use crate::fired::Fired;
 pub use crate::laws::stand_laws;
 pub use crate::stand::{Stand, stand_of, trouble_of};
 pub use crate::strand::{Known, Strand};

@@ -17,11 +17,11 @@ loop-machine-preserved c =
     let rest = c.loop-machine.machine-iterator.rest.items in
     let left = c.next.new.self.rest.items in
     let count : c.len-thread.result ≡ length known = omega (arith, c.len-thread.ensures, c.loop-machine.known.ok) in
-    let k : Known = record { machine = machine; last = c.last_in.result; fired = c.fired_in.result } in
+    let k : Known = record { machine = machine; last = c.last_in.result; fired = c.in_ok-fired_in.field-0 } in
     let is : KnownBy threads states (length known) machine k = record {
       machine = refl;
       last = c.last_in.ensures ∙ ap (last_in threads) count;
-      fired = λ n. c.fired_in.ensures n ∙ ap (λ (t : ℕ). fired_in states t n) count;
+      fired = λ n. c.in_ok-fired_in.ensures n ∙ ap (λ (t : ℕ). fired_in states t n) count;
     } in
     record {
       whole = i.whole ∙ ap (λ (xs : List (Option Thread)). yielded ++ xs) c.in-Some.ensures.steps.0 ∙ sym (append_assoc yielded (machine ∷ []) left);

@@ -3,7 +3,6 @@ use Rattle.std.proofs.lemmas.List.{take_all}
 use Rattle.script_tree.specs.Processes.{proc_of}
 use Rattle.protocol_values.specs.declared.Commit.{Commit}
 use Rattle.journal_replay.specs.Replays.{StandsAfter}
-use Rattle.journal_replay.specs.Runs.{BreaksOffAt}
 use Rattle.journal_replay.proofs.runs.replay.Goals as goal
 
 pub returns-then-lawful-commits-clause-stands : goal.returns-then-lawful-commits-clause-stands

@@ -7,7 +7,7 @@ use Rattle.cell_table.specs.Sight.{see_bound}
 use Rattle.protocol.specs.Worlds.{nack_of_row}
 use Rattle.runtime_worker.specs.Machines.{LeavesOthers, doings}
 use Rattle.runtime_worker.proofs.Machines.{at_scope, binds, bound_more, is_housing, leaves_bound, leaves_then, nacks_rise, open_is}
-use Rattle.runtime_worker.proofs.Rising.{rises_below}
+use Rattle.thread.proofs.Rising.{rises_below}
 use Rattle.runtime_worker.proofs.binding.bind_all.Goals as goal
 
 pub bind-requires-clause-range : goal.bind-requires-clause-range

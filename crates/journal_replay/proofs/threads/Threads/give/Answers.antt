@@ -1,5 +1,4 @@
 use Rattle.std.proofs.Common.{Bool, ap, subst, sym, ◌∙◌}
-use Rattle.std.proofs.Common.{Some}
 use Rattle.journal_replay.specs.Gathering.{GivesOne}
 use Rattle.journal_replay.proofs.Gathered.{open-still}
 use Rattle.journal_replay.proofs.threads.Threads.give.Goals as goal
