@@ -1,6 +1,6 @@
 //! The commits that a sheet's words name.
 
-ghost use Rattle.std.specs.Prelude.{◌≡◌, ◌≤◌, ◌<◌, ◌++◌, IfOk, IsOk, IfSome, IfNone, Some, true, false, is_some, option_and_then, option_to_list};
+ghost use Rattle.std.specs.Prelude.{◌≡◌, ◌≤◌, ◌<◌, ◌++◌, ◌∷◌, [], IfOk, IsOk, IfSome, IfNone, Some, true, false, is_some, option_and_then, option_to_list};
 ghost use Rattle.std.specs.List.{flat_map};
 ghost use Rattle.protocol_ledger.specs.Tables.{all_rows, rows_below, cell_at, is_fresh, is_row, word_at, joined_at, offer_at, namer_of, is_partner};
 ghost use Rattle.protocol_ledger.specs.Ledgers.{alone_by, pair_by, commit_by, commit_named, named_at, commit_at, told_at, commits_of, pending_of, is_pending, ledger_of, IsLawful};
@@ -8,7 +8,7 @@ ghost use Rattle.protocol_ledger.specs.Sheets.{table_of};
 ghost use Rattle.protocol_ledger.specs.CellWords.{joined_by, partner_by};
 
 use crate::sheet::{Sheet, is_fresh};
-use protocol_values::{Base, Cause, Cell, Commit, Joined, Offer, Row, unpack_cell};
+use protocol_values::{Base, Cause, Cell, Commit, Joined, Message, Offer, Row, unpack_cell};
 use std::alloc::AllocError;
 
 impl Sheet {
@@ -72,16 +72,18 @@ impl Sheet {
         }
         let (own, partner, stamp) = read_pair(word);
         match self.known_offer(row, own).base {
-            Base::Send(chan, msg) => {
-                commits.push(Commit::Pair {
-                    sender: (row, own),
-                    receiver: partner,
+            Base::Send(chan, msg) => match msg {
+                // as most messages are: then nothing is chosen by the kind of the message
+                Message::One(atom) => add_pair(
+                    commits,
+                    (row, own),
+                    partner,
                     chan,
-                    msg,
+                    Message::One(atom),
                     stamp,
-                })?;
-                Ok(())
-            }
+                ),
+                _ => add_pair(commits, (row, own), partner, chan, msg, stamp),
+            },
             _ if self.is_committed(partner.0) => Ok(()),
             _ => self.tell_named(row, commits),
         }
@@ -265,6 +267,28 @@ impl Sheet {
             _ => false,
         }
     }
+}
+
+/// Adds a pair. It stands in line, so that where the kind of the message is known it is written as it is.
+#[inline(always)]
+fn add_pair(
+    commits: &mut Vec<Commit>,
+    sender: (Row, u8),
+    receiver: (Row, u8),
+    chan: u8,
+    msg: Message,
+    stamp: u32,
+) -> Result<(), AllocError>
+    ensures { IsOk result → commits.new.items ≡ commits.old.items ++ Commit.Pair sender receiver chan msg stamp ∷ [] }
+{
+    commits.push(Commit::Pair {
+        sender,
+        receiver,
+        chan,
+        msg,
+        stamp,
+    })?;
+    Ok(())
 }
 
 fn alone_commit(row: Row, joined: Joined, base: Base) -> Option<Commit>

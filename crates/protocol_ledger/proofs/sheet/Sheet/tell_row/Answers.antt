@@ -7,6 +7,7 @@ use Rattle.protocol_values.specs.declared.Base.TheVariants.{Send, Recv, Always, 
 use Rattle.protocol_values.specs.declared.Commit.{Commit}
 use Rattle.protocol_values.specs.declared.Joined.{Joined}
 use Rattle.protocol_values.specs.declared.Message.{Message}
+use Rattle.protocol_values.specs.declared.Message.TheVariants.{One}
 use Rattle.protocol_values.specs.declared.Offer.{Offer}
 use Rattle.protocol_values.specs.declared.Row.{Row}
 use Rattle.protocol_ledger.specs.Ledgers.{commit_by, commit_named, is_send, named_at, pair_by, sends, told_at}
@@ -32,6 +33,12 @@ sent_names offer r j p o chan m partner own sent =
     (λ i. commit_by offer r j (partner i) (own i))
     ∙ ap (λ (b : Base). pair_by r j p b (offer p.0 p.1)) sent
 
+-- and it tells it
+told_sent : (joined : Row → Option Joined) (offer : Row → ℕ → Option Offer) (r : Row) (j : Joined) (p : Row × ℕ) (o : Offer) (chan : ℕ) (m : Message) → joined r ≡ Some j → j.partner ≡ Some p → offer r j.own ≡ Some o → o.base ≡ Send chan m → told_at joined offer r ≡ Some (Commit.Pair (r, j.own) p chan m j.stamp)
+told_sent joined offer r j p o chan m is partner own sent =
+    told_paired joined offer r j p true (is_none (joined p.0)) is partner (ap is_send own ∙ ap sends sent) refl
+    ∙ sent_names offer r j p o chan m partner own sent
+
 -- what is told is added
 adds : (before : List Commit) (told : Option Commit) (o : Option Commit) → told ≡ o → before ++ option_to_list o ≡ before ++ option_to_list told
 adds before told o e = ap (λ (x : Option Commit). before ++ option_to_list x) (sym e)
@@ -54,16 +61,21 @@ pub is_committed-requires : goal.is_committed-requires
 is_committed-requires c =
     partner_is_open (table_of c.args.self.now) c.args.row _ c.read_pair-own.result.1 c.requires.lawful (joined_word (table_of c.args.self.now) c.args.row c.args.word c.requires.row c.requires.word ∙ c.read_pair-own.ensures) refl
 
-pub returns-in_ok-push-in-Send : goal.returns-in_ok-push-in-Send
-returns-in_ok-push-in-Send c = λ ok.
+pub returns-in-One : goal.returns-in-One
+returns-in-One c = λ ok.
     let t = table_of c.args.self.now in
-    let p = c.read_pair-own.result in
     let joined = joined_word t c.args.row c.args.word c.requires.row c.requires.word ∙ c.read_pair-own.ensures in
-    let sent : is_send (offer_at t c.args.row p.0) ≡ true = ap is_send c.known_offer.ensures ∙ ap sends c.in-Send.is in
-    c.in_ok-push-in-Send.ensures.items
+    c.add_pair.ensures ok
     ∙ adds c.args.commits.now.items (told_at (joined_at t) (offer_at t) c.args.row) _
-    (told_paired (joined_at t) (offer_at t) c.args.row _ p.1 true (is_none (joined_at t p.1.0)) joined refl sent refl
-    ∙ sent_names (offer_at t) c.args.row _ p.1 c.known_offer.result c.in-Send.chan c.in-Send.msg refl c.known_offer.ensures c.in-Send.is)
+    (told_sent (joined_at t) (offer_at t) c.args.row _ c.read_pair-own.result.1 c.known_offer.result c.in-Send.chan (One c.in-One.atom) joined refl c.known_offer.ensures (c.in-Send.is ∙ ap (Send c.in-Send.chan) c.in-One.is))
+
+pub returns-in_default-msg : goal.returns-in_default-msg
+returns-in_default-msg c = λ ok.
+    let t = table_of c.args.self.now in
+    let joined = joined_word t c.args.row c.args.word c.requires.row c.requires.word ∙ c.read_pair-own.ensures in
+    c.add_pair-in_default-msg.ensures ok
+    ∙ adds c.args.commits.now.items (told_at (joined_at t) (offer_at t) c.args.row) _
+    (told_sent (joined_at t) (offer_at t) c.args.row _ c.read_pair-own.result.1 c.known_offer.result c.in-Send.chan c.in-Send.msg joined refl c.known_offer.ensures c.in-Send.is)
 
 pub returns-in_default : goal.returns-in_default
 returns-in_default c = λ ok.
