@@ -25,7 +25,7 @@ use crate::bound::{layout_for, rows_used};
 use crate::fault::RunFault;
 use crate::gate::TurnsOnly;
 use crate::leaving::machines_of;
-use crate::waits::waits_of;
+use crate::waits::{Awaited, rooms_for};
 use crate::workers::{all_work, parted, workers_of};
 use cell::{Cells, Pass, StepGate};
 use journal::{Record, conclude};
@@ -114,9 +114,8 @@ pub fn work_table<R: Threads + Wait + Sync, G: Gate + StepGate + Sync>(
     ensures machines { IfOk result (λ o. AreLeftBy cells.first o.0 o.1.items) }
 {
     let threads = script.processes().len() as u8;
-    let waits = waits_of(script.processes());
-    let nacks = if waits.nacks { threads } else { 0 };
-    let ends_of = if waits.ends { threads } else { 0 };
+    let nacks = rooms_for(script.processes(), Awaited::Nack, threads);
+    let ends_of = rooms_for(script.processes(), Awaited::End, threads);
     let channels = script.channels() as u16;
     let (meet, lanes) = Meet::with_rooms(alloc, channels, nacks, ends_of, workers)?;
     let (ready, ends) = Ready::new(alloc, workers)?;
