@@ -3,6 +3,7 @@ use Rattle.std.proofs.Common.{Option, ◌≡◌, ◌⊎◌, ℕ, List, [], ◌�
 use Rattle.std.proofs.lemmas.List.Elements.{All-append}
 use Rattle.thread.specs.After.{Chosen}
 use Rattle.thread.specs.Machines.{Broken, HasStopped, Open, Over, Phase, Ready, Stuck, Tells}
+use Rattle.thread.specs.declared.Fault.{Fault}
 use Rattle.thread.specs.declared.machine.Turn.{Turn}
 use Rattle.thread.specs.declared.machine.Turn.TheVariants as turn
 use Rattle.protocol_values.specs.declared.Row.{Row}
@@ -10,7 +11,7 @@ use Rattle.cell_table.specs.Sight.{Has}
 use Rattle.cell.specs.Calls.{PassOf}
 use Rattle.runtime_worker.specs.declared.resident.Rest.{Rest}
 use Rattle.runtime_worker.specs.declared.resident.Suspended.{Suspended}
-use Rattle.runtime_worker.specs.Machines.{AreAtRest, IsAtRest, IsNow}
+use Rattle.runtime_worker.specs.Machines.{AreAtRest, IsAtEnd, IsAtRest, IsNow}
 use Rattle.cell.proofs.Lists.{all_one}
 
 -- a turn tells of a machine that has stopped
@@ -30,6 +31,27 @@ tells_stopped t Broken h = absurd (broken t h)
     broken turn.Offering h = h
     broken turn.Ended h = h
     broken (turn.Faulted fault) h = h
+
+-- a turn that is no offer tells of one that has come to its end, or to a fault
+pub tells_over : (t : Turn) (p : Phase) → (t ≡ turn.Ended) ⊎ ((fault : Fault) × (t ≡ turn.Faulted fault)) → Tells t p → IsAtEnd p
+tells_over t p is tells = ⊎_elim
+    (λ e. ended p (subst (λ (x : Turn). Tells x p) e tells))
+    (λ w. faulted p w.0 (subst (λ (x : Turn). Tells x p) w.1 tells))
+    is
+  where
+    ended : (p : Phase) → Tells turn.Ended p → IsAtEnd p
+    ended Over h = tt
+    ended Ready h = absurd h
+    ended (Open os ns) h = absurd h
+    ended (Stuck fault) h = absurd h
+    ended Broken h = absurd h
+
+    faulted : (p : Phase) (fault : Fault) → Tells (turn.Faulted fault) p → IsAtEnd p
+    faulted Over fault h = absurd h
+    faulted Ready fault h = absurd h
+    faulted (Open os ns) fault h = absurd h
+    faulted (Stuck found) fault h = tt
+    faulted Broken fault h = absurd h
 
 -- the machine that a worker has comes to rest
 pub rest_now : (first : List (Option Suspended)) (p : PassOf Suspended) (place : Row) (m : Suspended) (told : List (ℕ × List Chosen)) → IsNow first p place m → HasStopped m.machine.value.phase → told ≡ p.results →

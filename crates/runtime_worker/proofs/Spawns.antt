@@ -51,7 +51,7 @@ pub standing_is : (first : List (Option Suspended)) (start : Suspended) (p : Pro
 standing_is first start p t is_first at = record {
   start = start;
   is_first = is_first;
-  process = record { body = refl; variables = refl; thread = refl };
+  process = record { body = refl; code = refl; variables = refl; thread = refl };
   given = sym (append-nil start.machine.value.results);
   after = at.after;
   in_range = at.in_range;
@@ -82,7 +82,7 @@ module _ (first : List (Option Suspended)) (old m : Suspended) (t : ℕ) (earlie
   resumed_is is stopped thread range = record {
     start = was.start;
     is_first = was.is_first;
-    process = record { body = same.body ∙ was.process.body; variables = same.variables ∙ was.process.variables; thread = same.thread ∙ was.process.thread };
+    process = record { body = same.body ∙ was.process.body; code = same.code ∙ was.process.code; variables = same.variables ∙ was.process.variables; thread = same.thread ∙ was.process.thread };
     given = given ∙ ap (λ (l : List Chosen). l ++ c ∷ []) was.given ∙ append_assoc was.start.machine.value.results earlier (c ∷ []);
     after = is;
     in_range = subst ResultsAreIn (sym given) (All-append (λ (r : Chosen). MessageIsIn r.1) old.machine.value.results (c ∷ []) was.in_range range);

@@ -3,7 +3,7 @@ use Rattle.thread.specs.After.{Chosen}
 use Rattle.runtime_worker.specs.declared.resident.Rest.{Rest}
 use Rattle.runtime_worker.specs.Machines.{AreAtRest}
 use Rattle.runtime_worker.proofs.Beginnings.{begin_yet}
-use Rattle.runtime_worker.proofs.Resting.{rest_now, rests_more, rests_same, tells_stopped}
+use Rattle.runtime_worker.proofs.Resting.{rest_now, rests_more, rests_same, tells_over, tells_stopped}
 use Rattle.runtime_worker.proofs.Startings.{finished_leaves, finished_rows}
 use Rattle.runtime_worker.proofs.crew.Crew.enter.Goals as goal
 
@@ -46,4 +46,14 @@ returns-in_ok-push-in-Ended g c =
       rows = (λ r h. rows.0 r (c.start_spawned.ensures.rows.0 r h), λ r h. rows.1 r (c.start_spawned.ensures.rows.1 r h));
       threads = begin_yet c.args.self.now.cells.now.threads c.args.place.thread c.start_spawned.new.pass.seen c.finish.new.pass.seen c.start_spawned.new.threads.items (finished_leaves c.start_spawned.new.pass.seen c.finish.new.pass.seen c.args.place finished) started.threads.0 started.threads.1;
       opened = tt;
+    }
+
+-- the machine has come to its end where the thread stands
+pub finish-requires : goal.finish-requires
+finish-requires g c =
+    let now = c.start_spawned.ensures.now in
+    record {
+      here = (c.start_spawned.ensures.here, c.requires.here.1);
+      stands = (c.start_spawned.ensures.stands, now.alive);
+      finishing = λ houses housing. record { value = c.args.suspended; earlier = now.earlier; count = now.count; seen = now.seen; does = (now.machine, tells_over c.args.turn c.args.suspended.machine.value.phase c.in-Ended.is c.requires.turn) };
     }

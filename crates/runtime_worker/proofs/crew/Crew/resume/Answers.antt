@@ -1,4 +1,4 @@
-use Rattle.std.proofs.Common.{rules, ◌≡◌, ◌≤◌, ◌∙◌, ◌++◌, ◌∷◌, [], ℕ, List, ap, length, subst, sym}
+use Rattle.std.proofs.Common.{rules, ◌≡◌, ◌≤◌, ◌∙◌, ◌++◌, ◌∷◌, [], ℕ, List, add-one, ap, length, subst, sym}
 use Rattle.std.specs.Box.{with_value}
 use Rattle.protocol_values.specs.declared.Row.{Row}
 use Rattle.protocol.specs.Standing.{IsLeft}
@@ -7,6 +7,8 @@ use Rattle.thread.specs.Machines.{SameProcess, Thread}
 use Rattle.thread.specs.Memories.{AddsNew}
 use Rattle.cell_table.specs.declared.view.Seen.{Seen}
 use Rattle.cell_table.specs.Sight.{Has, SawEnded}
+use Rattle.protocol_values.specs.Values.{next_row}
+use Rattle.cell.specs.Calls.{CanFetch, CanFetchAt}
 use Rattle.runtime_worker.specs.declared.resident.Suspended.{Suspended}
 use Rattle.runtime_worker.specs.Machines.{IsNow, SpawnedSince, doings}
 use Rattle.runtime_worker.proofs.Turning.{fetched_later, no_fewer, now_resumed, since}
@@ -55,3 +57,12 @@ enter-requires-clause-since g c =
       subst (λ (z : Row × ℕ). SpawnedSince now z.0.thread z.1) (λ i. (sym c.requires.next i, had i)) (since cells c.requires.here.2 c.fetch-suspended.new.pass row own to.0 got old now left same given adds),
       subst (λ (n : ℕ). n ≤ length c.resume.new.self.spawned) had (no_fewer cells c.requires.here.2 c.fetch-suspended.new.pass row own to.0 got old now left same given adds),
     )
+
+-- the machine came out with the row, and lies first
+pub fetch-suspended-requires-clause-can : goal.fetch-suspended-requires-clause-can
+fetch-suspended-requires-clause-can g c =
+    let cells = c.args.self.now.cells.now in
+    let p = c.args.pass.now in
+    let row = c.args.taken.row in
+    let to = c.requires.resumes in
+    subst (CanFetch cells p) (sym c.requires.next) (subst (CanFetchAt cells p (next_row row)) (sym (add-one row.sync)) (to.2, to.3))
