@@ -1,5 +1,5 @@
 -- What a ledger tells of its end, found by looking at rows.
-use Rattle.std.proofs.Common.{◌⊎◌, ◌≡◌, ◌∙◌, ◌+◌, ◌*◌, ◌/◌, ◌%◌, ◌<◌, ◌≤◌, ◌++◌, ◌∷◌, [], ℕ, zero, suc, List, length, slice_get, Bool, true, false, cond, ltb, Option, None, Some, ap, arith, inl, inr, refl, subst, sym, unwrap_or, ⊎_elim}
+use Rattle.std.proofs.Common.{◌⊎◌, ◌≡◌, ◌∙◌, ◌+◌, ◌*◌, ◌/◌, ◌%◌, ◌<◌, ◌≤◌, ◌++◌, ◌∷◌, [], ℕ, zero, suc, List, length, set, slice_get, Bool, true, false, cond, ltb, Option, None, Some, ap, arith, inl, inr, refl, subst, sym, unwrap_or, ⊎_elim}
 use Rattle.std.specs.Prelude.{slice_index_or}
 use Rattle.std.proofs.lemmas.Bool.{and_parts, cases_Bool, cases_lt, false≢true, ltb-true}
 use Rattle.std.proofs.lemmas.Option.{none-some, same_Some}
@@ -148,6 +148,24 @@ each_pushed P [] y before new zero x e = subst (P 0) (same_Some y x e) new
 each_pushed P [] y before new (suc i) x e = absurd (none-some x e)
 each_pushed P (z ∷ xs) y before new zero x e = before 0 x e
 each_pushed P (z ∷ xs) y before new (suc i) x e = each_pushed (λ k. P (suc k)) xs y (λ k. before (suc k)) new i x e
+
+pub each_set : {A : Type 0} (P : ℕ → A → Type 0) (xs : List A) (k : ℕ) (y : A) → ((i : ℕ) (x : A) → slice_get xs i ≡ Some x → (i ≡ k → ⊥) → P i x) → P k y → (i : ℕ) (x : A) → slice_get (set xs k y) i ≡ Some x → P i x
+each_set P [] k y others here i x e = absurd (none-some x e)
+each_set P (z ∷ xs) zero y others here zero x e = subst (P 0) (same_Some y x e) here
+each_set P (z ∷ xs) zero y others here (suc i) x e = others (suc i) x e (λ same. absurd (omega arith))
+each_set P (z ∷ xs) (suc k) y others here zero x e = others 0 x e (λ same. absurd (omega arith))
+each_set P (z ∷ xs) (suc k) y others here (suc i) x e = each_set (λ n. P (suc n)) xs k y (λ n v is apart. others (suc n) v is (λ same. apart (omega arith))) here i x e
+
+-- what holds of the elements before place k holds up to it, where the element there is as those behind it
+pub each_kept : {A : Type 0} (P Q : ℕ → A → Type 0) (xs : List A) (k : ℕ) → ((i : ℕ) (x : A) → slice_get xs i ≡ Some x → (i < k → P i x) × (k ≤ i → Q i x)) → ((x : A) → Q k x → P k x) → (i : ℕ) (x : A) → slice_get xs i ≡ Some x → (i < k + 1 → P i x) × (k + 1 ≤ i → Q i x)
+each_kept P Q xs k told here i x e =
+    let t = told i x e in (
+      λ h. ⊎_elim
+          (λ (less : i < k). t.0 less)
+          (λ (more : k ≤ i). let same : k ≡ i = omega arith in subst (λ (n : ℕ). P n x) same (here x (subst (λ (n : ℕ). Q n x) (sym same) (t.1 more))))
+          (cases_lt i k),
+      λ h. t.1 (omega arith),
+    )
 
 pub numbered : (n : NackName) → n.k < 64 → nack_numbered (n.thread * 64 + n.k) ≡ n
 numbered n low =

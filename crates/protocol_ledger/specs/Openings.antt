@@ -96,9 +96,10 @@ TellsNack l n (Enabled stamp) =
 abbrev pub nack_numbered : ℕ → NackName
 nack_numbered i = record { thread = i / 64; k = i % 64 }
 
--- of the first nacks
-abbrev pub TellNacks : Ledger → List NackState → Type 0
-TellNacks l states = (i : ℕ) (state : NackState) → slice_get states i ≡ Some state → TellsNack l (nack_numbered i) state
+-- of the first so many nacks; the others are said to be unbound
+abbrev pub TellNacks : Ledger → ℕ → List NackState → Type 0
+TellNacks l told states =
+    (i : ℕ) (state : NackState) → slice_get states i ≡ Some state → (i < told → TellsNack l (nack_numbered i) state) × (told ≤ i → state ≡ Unbound)
 
 -- 64 nacks a thread, thread by thread
 abbrev pub TellsNacks : Ledger → List NackState → Type 0

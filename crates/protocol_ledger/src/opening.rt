@@ -1,6 +1,6 @@
 //! What a ledger tells of its end: each thread's life and last stamp, and what became of each nack.
 
-ghost use Rattle.std.specs.Prelude.{◌≡◌, ◌+◌, ◌*◌, ◌<◌, ◌≤◌, ◌↔◌, Contains, IfOk, IsTrue, OnOk, length};
+ghost use Rattle.std.specs.Prelude.{◌≡◌, ◌+◌, ◌*◌, ◌<◌, ◌≤◌, ◌↔◌, Contains, IfOk, IsTrue, length};
 ghost use Rattle.protocol_ledger.specs.Ledgers.{HasCommit, Involves, IsLawful, Takes};
 ghost use Rattle.protocol_values.specs.Commits.{stamp_of};
 ghost use Rattle.protocol_ledger.specs.Openings.{HaveReached, IsOpening, IsPast, LeadsOn, TellsEnd, TellNacks, TellsNack, TellsNacks, TellsThreads, course_for, first_life, greatest, life_of, opening_of, stamp_in, start_opening, word_for};
@@ -180,36 +180,30 @@ impl Ledger {
         requires { HaveReached self.now reached.now }
         ensures { IfOk result (λ states. TellsNacks self.now states.items) }
     {
-        let mut states = Vec::with_capacity(self.sheet.allocator(), reached.len() * NACKS)?;
+        let alloc = self.sheet.allocator();
+        let mut states = vec![in alloc; NackState::Unbound; reached.len() * NACKS]?;
         for (thread, reached) in reached.iter().enumerate() {
-            self.add_nacks(thread as u8, reached.rows, &mut states)?;
+            self.tell_nacks(thread as u8, reached.rows, &mut states);
         }
         Ok(states)
     }
 
-    /// Adds what became of the nacks of a thread that got to so many rows. Most are not bound, which their words alone
-    /// tell.
-    fn add_nacks(
-        &self,
-        thread: u8,
-        rows: usize,
-        states: &mut Vec<NackState>,
-    ) -> Result<(), AllocError>
+    /// Tells what became of the nacks of a thread that got to so many rows. Most are not bound, which their words alone
+    /// tell, and stay as they are.
+    fn tell_nacks(&self, thread: u8, rows: usize, states: &mut [NackState])
         requires thread { thread < self.now.threads }
         requires past { IsPast self.now thread rows }
-        requires count { length states.old.items ≡ thread * 64 }
-        requires told { TellNacks self.now states.old.items }
-        ensures count { OnOk result (length states.new.items ≡ thread * 64 + 64) }
-        ensures told { OnOk result (TellNacks self.now states.new.items) }
+        requires room { thread * 64 + 64 ≤ length states.old }
+        requires told { TellNacks self.now (thread * 64) states.old }
+        ensures count { length states.new ≡ length states.old }
+        ensures told { TellNacks self.now (thread * 64 + 64) states.new }
     {
+        let first = usize::from(thread) * NACKS;
         for (k, word) in self.sheet.nack_words(thread).iter().enumerate() {
-            let state = match *word {
-                0 => NackState::Unbound,
-                _ => self.nack_state(NackName { thread, k: k as u8 }, rows),
-            };
-            states.push(state)?;
+            if *word != 0 {
+                states[first + k] = self.nack_state(NackName { thread, k: k as u8 }, rows);
+            }
         }
-        Ok(())
     }
 
     /// What became of a nack of a thread that got to so many rows.

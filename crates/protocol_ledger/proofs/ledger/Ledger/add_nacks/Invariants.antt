@@ -1,6 +1,0 @@
-use Rattle.std.proofs.Common.{◌≡◌, ◌+◌, ◌*◌, length}
-use Rattle.protocol_ledger.specs.Openings.{TellNacks}
-use Rattle.protocol_ledger.proofs.ledger.Ledger.add_nacks.Given as goal
-
-abbrev pub invariant-loop-k : goal.invariant-loop-k
-invariant-loop-k l = (length l.states.items ≡ l.thread * 64 + l.k) × TellNacks l.self l.states.items
