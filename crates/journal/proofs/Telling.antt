@@ -2,7 +2,7 @@
 use Rattle.std.proofs.Common.{◌≡◌, ◌≢◌, ◌*◌, ◌+◌, ◌<◌, ◌≤◌, ℕ, zero, suc, Bool, true, false, cond, ltb, List, [], ◌∷◌, ◌++◌, length, replicate, get_or, slice_get, Option, Some, None, IfSome, refl, sym, ap, ◌∙◌, subst, arith, inl, inr, ⊎_elim}
 use Rattle.std.proofs.lemmas.Bool.{cases_eq, cases_lt, le-ltb, lt-ltb}
 use Rattle.std.proofs.lemmas.Option.{slice_get_within}
-use Rattle.std.proofs.lemmas.List.{length_push}
+use Rattle.std.proofs.lemmas.List.{get_or_past, length_push}
 use Rattle.std.proofs.lemmas.List.Sorted.{Contains-permutation, IsPermutation-sym}
 use Rattle.std.specs.Prelude.{IsPermutation, option_and_then}
 use Rattle.script_tree.specs.Processes.{Proc}
@@ -16,7 +16,7 @@ use Rattle.protocol.specs.Openings.{Opening, thread_in}
 use Rattle.protocol_ledger.specs.declared.opening.Life.{Life}
 use Rattle.protocol_ledger.specs.declared.opening.Life.TheVariants.{Ended, Running, Unstarted}
 use Rattle.protocol_ledger.specs.declared.opening.NackState.{NackState}
-use Rattle.protocol_ledger.specs.declared.opening.NackState.TheVariants.{Unbound}
+use Rattle.protocol_ledger.specs.declared.opening.NackState.TheVariants.{Dead, Enabled, Unbound, Unsettled}
 use Rattle.journal_order.specs.Behind.{TellsRun, nack_state}
 use Rattle.journal_order.specs.Laws.{IsOrderOf}
 use Rattle.journal_order.specs.Ledgers.{IsLedgerOf, fired_as}
@@ -65,24 +65,40 @@ pub record FiredSo (states : List NackState) (t k : ℕ) (fired : List (Option �
 pub fired-none : (states : List NackState) (t : ℕ) → FiredSo states t 0 (replicate 256 None)
 fired-none states t = record { few = omega arith; done = λ n lt. absurd (omega (arith, lt)); rest = λ n le. nothing-there n }
 
-pub fired-more : (states : List NackState) (t k : ℕ) (fired now : List (Option ℕ)) → FiredSo states t k fired → k < 64 → get_or now k None ≡ option_and_then fired_as (slice_get states (t * 64 + k)) →
+fired-there : (states : List NackState) (i : ℕ) → option_and_then fired_as (slice_get states i) ≡ fired_as (get_or states i Unbound)
+fired-there [] i = refl
+fired-there (s ∷ ss) zero = refl
+fired-there (s ∷ ss) (suc i) = fired-there ss i
+
+pub unfired : (s : NackState) → ((stamp : ℕ) → s ≡ Enabled stamp → ⊥) → fired_as s ≡ None
+unfired Unbound other = refl
+unfired Unsettled other = refl
+unfired Dead other = refl
+unfired (Enabled stamp) other = absurd (other stamp refl)
+
+fired-at : (states : List NackState) (t k : ℕ) → k < 64 → fired_in states t k ≡ fired_as (get_or states (t * 64 + k) Unbound)
+fired-at states t k low = ap (λ (b : Bool). cond b (option_and_then fired_as (slice_get states (t * 64 + k))) None) (lt-ltb k 64 low) ∙ fired-there states (t * 64 + k)
+
+-- by the states that are told of its nacks
+pub fired-more : (states own : List NackState) (t k : ℕ) (fired now : List (Option ℕ)) → FiredSo states t k fired → k < 64 → get_or own k Unbound ≡ get_or states (t * 64 + k) Unbound → get_or now k None ≡ fired_as (get_or own k Unbound) →
     ((n : ℕ) → n ≢ k → get_or now n None ≡ get_or fired n None) → FiredSo states t (k + 1) now
-fired-more states t k fired now so low here others = record {
+fired-more states own t k fired now so low told here others = record {
   few = omega (arith, low);
   done = λ n lt. ⊎_elim
-      (λ e.
-      ap (λ (i : ℕ). get_or now i None) e ∙ here
-      ∙ sym (ap (λ (b : Bool). cond b (option_and_then fired_as (slice_get states (t * 64 + k))) None) (lt-ltb k 64 low)) ∙ ap (fired_in states t) (sym e))
+      (λ e. ap (λ (i : ℕ). get_or now i None) e ∙ here ∙ ap fired_as told ∙ sym (fired-at states t k low) ∙ ap (fired_in states t) (sym e))
       (λ ne. others n ne ∙ so.done n (omega (arith, lt, ne)))
       (cases_eq n k);
   rest = λ n le. others n (λ e. omega (arith, le, e)) ∙ so.rest n (omega (arith, le));
 }
 
-pub fired-all : (states : List NackState) (t k : ℕ) (fired : List (Option ℕ)) → FiredSo states t k fired → 64 ≤ k → (n : ℕ) → get_or fired n None ≡ fired_in states t n
-fired-all states t k fired so le n = ⊎_elim
-    (λ lt. so.done n (omega (arith, lt, le)))
-    (λ ge. so.rest n (omega (arith, ge, so.few)) ∙ sym (above n ge))
-    (cases_lt n 64)
+pub fired-all : (states own : List NackState) (t k : ℕ) (fired : List (Option ℕ)) → FiredSo states t k fired → length own ≤ k → ((n : ℕ) → n < 64 → get_or own n Unbound ≡ get_or states (t * 64 + n) Unbound) → (n : ℕ) → get_or fired n None ≡ fired_in states t n
+fired-all states own t k fired so le told n = ⊎_elim
+    (λ lt. so.done n lt)
+    (λ ge. so.rest n ge ∙ ⊎_elim
+    (λ low. ap fired_as (sym (get_or_past own n Unbound (omega (arith, le, ge))) ∙ told n low) ∙ sym (fired-at states t n low))
+    (λ high. sym (above n high))
+    (cases_lt n 64))
+    (cases_lt n k)
   where
     above : (n : ℕ) → 64 ≤ n → fired_in states t n ≡ None
     above n ge = ap (λ (b : Bool). cond b (option_and_then fired_as (slice_get states (t * 64 + n))) None) (le-ltb n 64 ge)
@@ -126,11 +142,6 @@ last-there : (threads : List (Life × ℕ)) (t : ℕ) → last_in threads t ≡ 
 last-there [] t = refl
 last-there (w ∷ ws) zero = refl
 last-there (w ∷ ws) (suc t) = last-there ws t
-
-fired-there : (states : List NackState) (i : ℕ) → option_and_then fired_as (slice_get states i) ≡ fired_as (get_or states i Unbound)
-fired-there [] i = refl
-fired-there (s ∷ ss) zero = refl
-fired-there (s ∷ ss) (suc i) = fired-there ss i
 
 module _ (ps : List Proc) (commits : List Commit) (o : Opening) (tells : TellsRun ps commits o) where
   knows-last : (t : ℕ) (x : Life × ℕ) → thread_in o t ≡ x → KnowsLast ps commits t (last_if x)

@@ -1,12 +1,13 @@
 //! What the commits of a ledger, or of a run, come to, by the machines that made them.
 
-ghost use Rattle.std.specs.Prelude.{◌≡◌, ◌≤◌, ◌<◌, ℕ, IfOk, None, length, map, option_and_then, slice_get, slice_index_or};
+ghost use Rattle.std.specs.Prelude.{◌≡◌, ◌+◌, ◌*◌, ◌≤◌, ◌<◌, ℕ, IfOk, None, length, map, slice_index_or};
 ghost use Rattle.journal_order.specs.Behind.{TellsRun};
-ghost use Rattle.journal_order.specs.Ledgers.{IsLedgerOf, fired_as};
+ghost use Rattle.journal_order.specs.Ledgers.{IsLedgerOf};
 ghost use Rattle.journal_replay.specs.Lines.{trees_in};
 ghost use Rattle.journal_replay.specs.Runs.{IsRun};
 ghost use Rattle.protocol.specs.Openings.{opening_of};
 ghost use Rattle.protocol_values.specs.Commits.{IsInOrder, most_rows};
+ghost use Rattle.protocol_ledger.specs.declared.opening.NackState.TheVariants.{Unbound};
 ghost use Rattle.script_tree.specs.Processes.{proc_of, tree_of};
 ghost use Rattle.script_tree.specs.Spawning.{IsPlaced};
 ghost use Rattle.journal.specs.Concluding.{AreGone, AreStanding, EachKnownBy, RunTrees, fired_in, last_in};
@@ -159,20 +160,22 @@ fn fired_in(alloc: Global, opening: &Opening, thread: usize) -> Result<Fired, Al
     ensures { IfOk result (λ fired. (k : ℕ) → slice_index_or fired k None ≡ fired_in opening.now.nacks.items thread k) }
 {
     let mut fired = Fired::new(alloc);
-    for k in 0..NACKS {
-        if let Some(stamp) = fired_at(opening, thread * NACKS + k) {
+    for (k, state) in nacks_of(opening, thread).iter().enumerate() {
+        if let NackState::Enabled(stamp) = *state {
             fired.add(k as u8, stamp)?;
         }
     }
     Ok(fired)
 }
 
-/// The stamp of the commit that fired the nack at this place.
-fn fired_at(opening: &Opening, place: usize) -> Option<u32>
-    ensures { result ≡ option_and_then fired_as (slice_get opening.now.nacks.items place) }
+/// What is told of the thread's nacks, of which those behind the last told are unbound.
+fn nacks_of(opening: &Opening, thread: usize) -> &[NackState]
+    requires { thread < 64 }
+    ensures few { length result.now ≤ 64 }
+    ensures states { (k : ℕ) → k < 64 → slice_index_or result.now k Unbound ≡ slice_index_or opening.now.nacks.items (thread * 64 + k) Unbound }
 {
-    match opening.nacks.get(place) {
-        Some(NackState::Enabled(stamp)) => Some(*stamp),
-        Some(NackState::Unbound | NackState::Unsettled | NackState::Dead) | None => None,
-    }
+    let count = opening.nacks.len();
+    let first = (thread * NACKS).min(count);
+    let end = (first + NACKS).min(count);
+    &opening.nacks[first..end]
 }
