@@ -1,4 +1,5 @@
-use Rattle.std.proofs.Common.{◌≡◌, ◌<◌, ◌∷◌, [], ◌++◌, ◌∙◌, ℕ, List, Some, append_assoc, ap, arith, length, set, subst, sym}
+use Rattle.std.proofs.Common.{◌≡◌, ◌<◌, ◌∷◌, [], ◌++◌, ◌∙◌, ℕ, List, Some, append-nil, append_assoc, ap, arith, length, set, subst, sym}
+use Rattle.std.proofs.lemmas.List.{nil_from_length}
 use Rattle.thread.specs.Machines.{Thread}
 use Rattle.runtime_worker.specs.declared.resident.Rest.{Rest}
 use Rattle.runtime_run.specs.Machines.{AreLeft}
@@ -54,3 +55,14 @@ loop-rest-preserved c =
       whole = next_whole c.args.rests.items c.loop-rest.yielded c.loop-rest.rest-iterator.rest.items c.next.new.self.rest.items c.in-Some.rest i.whole c.in-Some.ensures.steps.0;
       left = left_more c.args.homes.items c.loop-rest.yielded c.in-Some.rest c.loop-rest.machines.items i.left;
     }
+
+-- nothing is left to be put
+pub returns : goal.returns
+returns c =
+    let i = c.loop-rest.invariant in
+    let left = c.loop-rest.rest-iterator.rest in
+    let yielded : List Rest = c.loop-rest.yielded in
+    let nothing : left.items ≡ [] = nil_from_length left.items (omega (arith, c.in-None.ensures.steps.0, left.ok.0)) in
+    subst (λ (rests : List Rest). AreLeft c.args.homes.items rests c.loop-rest.machines.items)
+    (sym (i.whole ∙ ap (λ (xs : List Rest). yielded ++ xs) nothing ∙ append-nil yielded))
+    i.left
