@@ -25,7 +25,7 @@ use Rattle.protocol_values.specs.Commits.{gives, stamp_of}
 use Rattle.thread_stand.specs.declared.strand.Known.{Known}
 use Rattle.thread_stand.specs.declared.strand.Strand.{Strand}
 use Rattle.journal_replay.specs.declared.threads.Threads.{Threads}
-use Rattle.journal_replay.specs.Gathering.{AreGathered, AreKnown, CanGive, GivesAll, GivesOne, GivesRow, HasGone, IsEarly, IsHad, IsKnown, IsOpenFor, KnowsLast, OneGoesOn, waits_if, waits_in}
+use Rattle.journal_replay.specs.Gathering.{AreGathered, AreHad, AreKnown, CanGive, GivesAll, GivesOne, GivesRow, HasGone, IsEarly, IsHad, IsKnown, IsOpenFor, KnowsLast, OneGoesOn, waits_if, waits_in}
 use Rattle.thread_stand.specs.Strands.{Gathers, GoesOn, HasBegun}
 use Rattle.journal_replay.specs.Reaching.{AreAfter}
 use Rattle.journal_replay.specs.Runs.{Config, CanTake, CountsOf, HasThread, IsCaused, IsGreatest, IsLegal, IsRun, Starts, applied, config_from, config_of, message_by, no_results, with_result}
@@ -279,6 +279,11 @@ receiver-open sender receiver chosen old middle apart ready given s at next = �
     (λ had. ready s (sym (ap (λ (l : List Strand). slice_get l receiver.0.thread) had.1) ∙ at) next)
     (λ goes. ready s (sym (ap (λ (l : List Strand). slice_get l receiver.0.thread) goes.is ∙ set-other old sender.0.thread receiver.0.thread goes.behind (λ e. apart (sym e))) ∙ at) next)
     given
+
+-- nothing is given where all was had
+pub gives-nothing : (c : Commit) (strands : List Strand) → AreHad c strands → GivesAll c strands strands
+gives-nothing (Pair sender receiver chan msg stamp) strands had = (strands, inl (had.0, refl), inl (had.1, refl))
+gives-nothing (Alone at why stamp) strands had = inl (had, refl)
 
 pub open-still : (c : Commit) (first second : RowResult) (old middle : List Strand) → gives c ≡ (first, Some second) → CanGive old c → GivesOne first old middle true → IsOpenFor middle second.at
 open-still (Pair sender receiver chan msg stamp) first second old middle is can given =

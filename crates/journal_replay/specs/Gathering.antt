@@ -82,6 +82,11 @@ pub record OneGoesOn (at : Row × ℕ) (chosen : Chosen) (old new : List Strand)
 abbrev pub IsHad : Row × ℕ → List Strand → Type 0
 IsHad at strands = (s : Strand) → slice_get strands at.0.thread ≡ Some s → at.0.sync ≢ length s.machine.results
 
+-- no row of the commit is
+abbrev pub AreHad : Commit → List Strand → Type 0
+AreHad (Pair sender receiver chan msg stamp) strands = IsHad sender strands × IsHad receiver strands
+AreHad (Alone at why stamp) strands = IsHad at strands
+
 -- the thread of the row was given its result, if that is the next; or it is early, and nothing was done
 abbrev pub GivesRow : Row × ℕ → Chosen → List Strand → List Strand → Bool → Type 0
 GivesRow at chosen old new true = (IsHad at old × (new ≡ old)) ⊎ OneGoesOn at chosen old new
