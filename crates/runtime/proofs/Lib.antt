@@ -1,4 +1,5 @@
 mod CatchingUp
 mod GoingOn
 mod Keeping
+mod Spent
 pub mod LeadingOn

@@ -92,6 +92,10 @@ CatchesUpAll had commits old new =
 abbrev pub IsSpent : Thread → ℕ → ℕ → Type 0
 IsSpent m before rows = IsOpen m.phase × (before + rows ≤ length m.results)
 
+-- there is a machine, and it does
+abbrev pub HasSpent : Option Thread → ℕ → ℕ → Type 0
+HasSpent place before rows = (m : Thread) × (place ≡ Some m) × IsSpent m before rows
+
 -- some thread's machine does
 abbrev pub SomeIsSpent : List ℕ → ℕ → List (Option Thread) → Type 0
 SomeIsSpent had rows machines = (t : ℕ) × (m : Thread) × (slice_get machines t ≡ Some (Some m)) × IsSpent m (had_by had t) rows
