@@ -22,7 +22,7 @@ pub use crate::looking::{FilesRead, files_read, first_fault};
 pub use crate::meeting::{MeetFault, meet_text};
 pub use crate::play::{PlayFault, play_laws, play_text};
 pub use crate::program::{BAD_WORDS, command, tell};
-pub use crate::run::{RunText, run_parts, run_seasons_parts};
+pub use crate::run::{RunText, run_parts, run_seasons_parts, seasons_law};
 pub use crate::version::version_text;
 pub use outcomes::{Unwatched, Watch};
 pub use pcml_files::{Source, SourceFault, SystemFiles};

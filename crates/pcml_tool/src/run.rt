@@ -13,6 +13,7 @@ ghost use Rattle.runtime.specs.Limits.{AreRows, AreSeasons, AreWorkers};
 ghost use Rattle.runtime.specs.Played.{NeedsSeasons};
 ghost use Rattle.runtime_run.specs.declared.fault.RunFault.TheVariants.{Workers, Rows};
 ghost use Rattle.runtime.specs.declared.seasons.SeasonFault.TheVariants as faults;
+ghost use Rattle.pcml_tool.specs.Seasons.{SeasonsAreTold};
 ghost use Rattle.pcml_tool.specs.Run.{tail_line, TellsFreelyOf, TellsRecord, TellsRunOf};
 ghost use Rattle.pcml_answers.specs.Standings.{TellsStandings};
 
@@ -122,3 +123,8 @@ pub fn run_seasons_parts<R: Threads + Wait + Sync>(
         Err(_) => Err(SeasonFault::Memory),
     }
 }
+
+/// Where a search of runs of any length tells all outcomes, a run in seasons that ends comes to one of them.
+pub fn seasons_law()
+    ensures { SeasonsAreTold }
+{}
