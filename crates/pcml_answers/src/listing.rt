@@ -67,7 +67,8 @@ fn found_within<W: Watch>(
     ensures found { IfOk result (AreFound (script_of script.now) rows limit asked.now) }
     ensures lines { IfOk result (λ o. HaveLines (script_of script.now) o.outcomes.items) }
 {
-    find_outcomes(alloc, script.processes(), rows, limit, asked, watch)
+    let found = find_outcomes(alloc, script.processes(), rows, limit, asked, watch)?;
+    Ok(found)
 }
 
 /// The same in runs of any length.
@@ -83,7 +84,8 @@ fn found_freely<W: Watch>(
     ensures found { IfOk result (AreFoundFreely (script_of script.now) limit asked.now) }
     ensures lines { IfOk result (λ o. HaveLines (script_of script.now) o.outcomes.items) }
 {
-    find_states(alloc, script.processes(), limit, asked, watch)
+    let found = find_states(alloc, script.processes(), limit, asked, watch)?;
+    Ok(found)
 }
 
 /// What they can come to, of so many rows each, or where no number is named in runs of any length.
@@ -95,7 +97,7 @@ fn found_in<W: Watch>(
     asked: &Asked,
     watch: &mut W,
 ) -> Result<Outcomes, AllocError>
-    requires rows { IfSome rows (λ rows. rows ≤ most_rows) }
+    requires rows { IfSome rows (λ number. number ≤ most_rows) }
     requires limit { 1 ≤ limit }
     requires most { rows ≡ None → limit ≤ most_rows }
     ensures found { IfOk result (AreFoundIn (script_of script.now) rows limit asked.now) }
@@ -121,7 +123,7 @@ pub fn outcomes_text<W: Watch>(
     of: Option<u32>,
     watch: &mut W,
 ) -> Result<OutcomesText, AllocError>
-    requires rows { IfSome rows (λ rows. rows ≤ most_rows) }
+    requires rows { IfSome rows (λ number. number ≤ most_rows) }
     requires limit { 1 ≤ limit }
     requires most { rows ≡ None → limit ≤ most_rows }
     requires marks { length asked.now.named.items ≡ length (script_of script.now).processes }
