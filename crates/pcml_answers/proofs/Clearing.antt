@@ -311,7 +311,7 @@ module _ (s : Script) (journal : List Commit) (ends : List End) (outputs : List 
   left : AllRowsLeft (suc (length journal)) (config_of journal)
   left t = omega (arith, leads_count s.processes leads.rows no_results journal (config_of journal) t (run-leads s.processes leads.rows journal leads.run))
 
-  free-tells : TellsEnds s.processes (suc (length journal)) (config_of journal) ends outputs
+  pub free-tells : TellsEnds s.processes (suc (length journal)) (config_of journal) ends outputs
   free-tells = leads.tells (suc (length journal)) left
 
 pub free_never_spends : FreeNeverSpends

@@ -66,6 +66,7 @@ fn found_within<W: Watch>(
     requires limit { 1 ≤ limit }
     ensures found { IfOk result (AreFound (script_of script.now) rows limit asked.now) }
     ensures lines { IfOk result (λ o. HaveLines (script_of script.now) o.outcomes.items) }
+    ensures of { IfOk result (λ o. AreOf (script_of script.now) o.outcomes.items) }
 {
     let found = find_outcomes(alloc, script.processes(), rows, limit, asked, watch)?;
     Ok(found)
@@ -83,6 +84,7 @@ fn found_freely<W: Watch>(
     requires most { limit ≤ most_rows }
     ensures found { IfOk result (AreFoundFreely (script_of script.now) limit asked.now) }
     ensures lines { IfOk result (λ o. HaveLines (script_of script.now) o.outcomes.items) }
+    ensures of { IfOk result (λ o. AreOf (script_of script.now) o.outcomes.items) }
 {
     let found = find_states(alloc, script.processes(), limit, asked, watch)?;
     Ok(found)

@@ -31,3 +31,11 @@ returns-clause-lines g c k o is =
     let outcomes = c.in_ok-found.found.outcomes.items in
     let told : AreOutcomes s.processes c.args.rows outcomes = subst (λ (ps : List Proc). AreOutcomes ps c.args.rows outcomes) c.processes.ensures.value c.in_ok-found.ensures.told in
     run_has_lines s c.processes.ensures.spelled c.args.rows c.requires.rows o.journal.items (told k o is).leads.run
+
+pub returns-clause-of : goal.returns-clause-of
+returns-clause-of g c k o is =
+    let s = script_of c.args.script.now in
+    let outcomes = c.in_ok-found.found.outcomes.items in
+    let told : AreOutcomes s.processes c.args.rows outcomes = subst (λ (ps : List Proc). AreOutcomes ps c.args.rows outcomes) c.processes.ensures.value c.in_ok-found.ensures.told in
+    let tells = (told k o is).leads.tells in
+    record { ends = tells.ends_count; outputs = tells.outputs_count }
