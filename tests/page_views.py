@@ -26,7 +26,7 @@ const noting = setInterval(() => {
 # Two that send to and fro without end, beside four who do the same: far more configurations than are seen in a second.
 LONG = "".join(f"channel c{n}; " for n in range(6)) + "".join(
     f"process a{n} {{ forever {{ sync choose [send c{n} (1), send c{(n + 1) % 6} (2)]; }} }}\n"
-    f"process b{n} {{ forever {{ x <- sync recv c{n}; }} }}\n"
+    f"process b{n} {{ let k = 0; forever {{ x <- sync recv c{n}; let k = k + x; }} }}\n"
     for n in range(6)
 )
 WRONG = "channel c;\nprocess a {\n  x = 1;\n}\n"

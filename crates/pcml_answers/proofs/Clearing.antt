@@ -279,10 +279,9 @@ module _ (s : Script) (rows limit : ℕ) (asked : Asked) (found : Outcomes) (are
 pub clear_never_waits : ClearNeverWaits
 clear_never_waits s rows limit asked found are waits clear journal ends outputs leads =
     let parts = nothing-waits asked found waits clear in
-    let seen = whole found.extent (both (is_whole found.extent) (length (shown asked found.outcomes.items) == 0) parts.0).0 in
-    (
+    let seen = whole found.extent (both (is_whole found.extent) (length (shown asked found.outcomes.items) == 0) parts.0).0 in (
       never-waits asked found ends outputs (its s rows limit asked found are journal ends outputs leads) (as-many s rows limit asked found are journal ends outputs leads) waits parts.0,
-      never-spent s rows limit asked found are journal ends outputs leads seen (unbounded found.is_bounded parts.1)
+      never-spent s rows limit asked found are journal ends outputs leads seen (unbounded found.is_bounded parts.1),
     )
 
 pub clear_always_ends : ClearAlwaysEnds

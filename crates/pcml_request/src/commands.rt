@@ -1,8 +1,9 @@
 //! A command of the program for each request, and the request by the words behind it.
 
 use crate::arguments::{
-    arguments_of_journal, bound_argument, file_argument, flag_argument, kept_argument, limit_argument, of_argument,
-    optional_file_argument, rows_argument, seasons_argument, stamp_argument,
+    arguments_of_journal, bound_argument, file_argument, flag_argument, kept_argument,
+    limit_argument, of_argument, optional_file_argument, rows_argument, seasons_argument,
+    stamp_argument,
 };
 use crate::request::{Drawing, Form, OfJournal, Question, Request, Running, Search, Wanted};
 use clap::{Arg, ArgAction, ArgMatches, Command, value_parser};

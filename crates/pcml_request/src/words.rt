@@ -22,8 +22,12 @@ fn range_objection(asked: &Request<'_>) -> Option<&'static str>
         },
         Request::OfJournal(OfJournal { rows, .. })
         | Request::Run(Running { rows, .. })
-        | Request::Outcomes(Search { rows: Some(rows), .. })
-            if *rows > 1024 => { Some("a process makes at most 1024 syncs in a season") }
+        | Request::Outcomes(
+            Search {
+                rows: Some(rows),
+                ..
+            },
+        ) if *rows > 1024 => { Some("a process makes at most 1024 syncs in a season") }
         Request::OfJournal(
             OfJournal {
                 question: Question::Chart(Drawing { from, to, .. }),
