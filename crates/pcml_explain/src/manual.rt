@@ -202,7 +202,7 @@ OPTIONS
               Where there is none of that number, the status is 1.
 
        --limit C
-              How many states, or with --rows configurations, are seen, 1 to
+              How many states are seen, or with --rows configurations, 1 to
               4194304; else 1048576. Where there are more, the last line ends
               with cut in place of all.
 
