@@ -52,7 +52,7 @@ complete -c pcml -n '__pcml_is chart' -l only -x -a 'all' -d 'Names of processes
 complete -c pcml -n '__pcml_is chart' -l as -x -a 'mermaid svg' -d 'svg, as it is without the option'
 complete -c pcml -n '__pcml_is next' -l rows -x -a '256 1024' -d 'How many syncs a process may make'
 complete -c pcml -n '__pcml_is outcomes' -l rows -x -a '256 1024' -d 'How many syncs a process may make'
-complete -c pcml -n '__pcml_is outcomes' -l limit -x -d 'How many configurations are seen'
+complete -c pcml -n '__pcml_is outcomes' -l limit -x -d 'How many states are seen'
 complete -c pcml -n '__pcml_is outcomes' -l waiting -d 'Tells only the outcomes in which some process that is told is left waiting'
 complete -c pcml -n '__pcml_is outcomes' -l need -x -a 'all' -d 'Processes that have to end'
 complete -c pcml -n '__pcml_is outcomes' -l only -x -a 'all' -d 'Names of processes'

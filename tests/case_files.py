@@ -44,7 +44,7 @@ def listing(text):
     blocks, _, last = text.rpartition("outcomes ")
     outcomes = sorted(it.partition("\n")[2] for it in blocks.split("outcome ")[1:])
     count, _, behind = last.partition(" ")
-    return outcomes, count, re.sub(r"^configurations \d+ ?", "", behind)
+    return outcomes, count, re.sub(r"^(configurations|states) \d+ ?", "", behind)
 
 
 def allowed(body, place):

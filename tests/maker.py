@@ -96,6 +96,8 @@ def statement_text(s):
         return (", ".join(s[1]) + " <- " if s[1] else "") + f"sync {event_text(s[2])};"
     if kind == "loop":
         return f"loop {s[1]} {{ {block_text(s[2])} }}"
+    if kind == "forever":
+        return f"forever {{ {block_text(s[1])} }}"
     if kind == "if":
         return f"if {s[1]} = {s[2]} {{ {block_text(s[3])} }} else {{ {block_text(s[4])} }}"
     return f"{kind} {s[1]};"

@@ -26,7 +26,7 @@ const noting = setInterval(() => {
 # Two that send to and fro without end, beside four who do the same: far more configurations than are seen in a second.
 LONG = "".join(f"channel c{n}; " for n in range(6)) + "".join(
     f"process a{n} {{ forever {{ sync choose [send c{n} (1), send c{(n + 1) % 6} (2)]; }} }}\n"
-    f"process b{n} {{ forever {{ x <- sync recv c{n}; }} }}\n"
+    f"process b{n} {{ let k = 0; forever {{ x <- sync recv c{n}; let k = k + x; }} }}\n"
     for n in range(6)
 )
 WRONG = "channel c;\nprocess a {\n  x = 1;\n}\n"
@@ -142,11 +142,13 @@ def options_count(driven, address):
     meets(text_of(page, "#answer"), "no process is named 'nobody'")
     choose_example(page, "ordered_philosophers")
     press_view(page, "outcomes")
-    needs_end(page, "plato,kant,hume", "--need plato,kant,hume", "Each of these ends in every outcome.", "met")
+    needs_end(page, "plato,kant,hume", "--need plato,kant,hume", "Each of these ends in each run that comes to an end.", "met")
     needs_end(page, "all", "--need all", "1 outcome in which one of these has not ended, and that is all.", "fault")
     fill(page, "#script", "process a { forever { sync always (); } }\n")
     press_view(page, "outcomes")
-    needs_end(page, "a", "--need a", "1 outcome in which one of these has not ended, and that is all within 256 syncs", "open")
+    needs_end(page, "a", "--need a", "Each of these ends in each run that comes to an end.", "met")
+    fill(page, "#rows", "9")
+    needs_end(page, "a", "--need a --rows 9", "1 outcome in which one of these has not ended, and that is all within 9 syncs", "open")
 
 
 def needs_end(page, names, words, told, kind):

@@ -91,14 +91,14 @@ pcml_check_answer pcml_check_journal(const char *script, size_t script_len, cons
                                      uint32_t rows, char *text, size_t room);
 
 /*
- * What can the script come to? The text is that of `pcml outcomes`. A process makes at most `rows` syncs, 1 to 1024
- * (0 is kept for runs of any length, and refused today). At most `limit` configurations are looked at, 1 to 4194304:
- * each takes memory, and 1048576 is the program's. `need` and `only` are names of processes with commas between, or
+ * What can the script come to? The text is that of `pcml outcomes`. A process makes at most `rows` syncs, 1 to 1024;
+ * with 0, as without --rows, any number. At most `limit` configurations, or with 0 rows states, are looked at, 1 to
+ * 4194304: each takes memory, and 1048576 is the program's. `need` and `only` are names of processes with commas between, or
  * all, as for --need and --only; a length of 0 gives none. An outcome is told where a process of `need` has not ended,
  * and without `need` each; outcomes that differ in no process of `only` or `need` are one.
  *   PCML_DONE            with `need`: all was seen, and each process of it ends in every outcome; without: always
  *   PCML_STUCK           some process of `need` waits for ever, has faulted or was never started in some outcome
- *   PCML_OPEN            neither is known: the search was cut, or a process had no sync left
+ *   PCML_OPEN            neither is known: the search was cut, or a process had no sync left (never with 0 rows)
  *   PCML_BAD_ROWS, PCML_BAD_LIMIT, PCML_BAD_NAMES, PCML_BAD_SCRIPT, PCML_NO_PROCESS, PCML_OUT_OF_MEMORY
  */
 pcml_check_answer pcml_outcomes(const char *script, size_t script_len, uint32_t rows, uint32_t limit,

@@ -10,7 +10,7 @@
 static char *files[2];
 static size_t lengths[2];
 static int named;
-static uint32_t rows = 256, seasons = 1, limit = 1048576, from = 1, to = UINT32_MAX, form = PCML_SVG;
+static uint32_t rows = 0, seasons = 1, limit = 1048576, from = 1, to = UINT32_MAX, form = PCML_SVG;
 static const char *need = "", *only = "";
 
 static int tell_memory(void) { return fprintf(stderr, "fault 1\n"), 1; }
@@ -51,12 +51,13 @@ static int read_words(int count, char **words) {
 }
 
 static pcml_check_answer ask(const char *command, char *text, size_t room) {
+    uint32_t all = (rows ? rows : 256) * seasons;
     if (!strcmp(command, "check")) return pcml_check(files[0], lengths[0], text, room);
     if (!strcmp(command, "why")) return pcml_why_script(files[0], lengths[0], text, room);
-    if (!strcmp(command, "replay")) return pcml_check_journal(files[0], lengths[0], files[1], lengths[1], rows * seasons, text, room);
+    if (!strcmp(command, "replay")) return pcml_check_journal(files[0], lengths[0], files[1], lengths[1], all, text, room);
     if (!strcmp(command, "outcomes"))
         return pcml_outcomes(files[0], lengths[0], rows, limit, need, strlen(need), only, strlen(only), text, room);
-    return pcml_chart(files[0], lengths[0], files[1], lengths[1], rows * seasons, only, strlen(only), from, to, form, text, room);
+    return pcml_chart(files[0], lengths[0], files[1], lengths[1], all, only, strlen(only), from, to, form, text, room);
 }
 
 /* What the program tells on its error stream of a refusal; the status. */

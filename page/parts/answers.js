@@ -34,8 +34,8 @@ function read_outcomes(text) {
     if (head) outcomes.push({ number: Number(head[1]), stands: [] });
     else outcomes.at(-1).stands.push(stand_of(line));
   }
-  const counts = /^outcomes [0-9]+ configurations ([0-9]+) ?(.*)$/.exec(last) ?? [];
-  return { outcomes, seen: Number(counts[1]), extent: counts[2] ?? "" };
+  const counts = /^outcomes [0-9]+ (configuration|state)s ([0-9]+) ?(.*)$/.exec(last) ?? [];
+  return { outcomes, seen: counted(Number(counts[2]), counts[1] ?? "state"), extent: counts[3] ?? "" };
 }
 
 // A text in which what stands between backquotes is code.

@@ -163,7 +163,7 @@ class Playground {
     const words = this.outcome_words();
     const answer = await this.play(words);
     const { outcomes, seen, extent } = read_outcomes(answer.out);
-    const seen_in = `${counted(seen, "configuration")} seen in ${Math.round(answer.milliseconds)} ms.`;
+    const seen_in = `${seen} seen in ${Math.round(answer.milliseconds)} ms.`;
     const hints = [seen_in, ...lines_of(answer.err)].map((line) => made("p", { class: "hint" }, line));
     const drawn = outcomes.length ? drawn_outcomes(outcomes, (number) => this.follow(words, number)) : [];
     return {
@@ -283,7 +283,7 @@ function kind_of_outcomes(count, words) {
 function told_of_outcomes(count, extent, words) {
   const kind = kind_of_outcomes(count, words);
   const is_met = words.includes("--need") && count === 0;
-  if (extent === "all") return is_met ? `${kind} in every outcome.` : `${kind}, and that is all.`;
+  if (extent === "all") return is_met ? `${kind} in each run that comes to an end.` : `${kind}, and that is all.`;
   const within = /^all within ([0-9]+) syncs/.exec(extent);
   if (within) {
     const syncs = `within ${counted(Number(within[1]), "sync")} a process.`;

@@ -10,17 +10,22 @@ use Rattle.script.specs.Sources.{Script}
 use Rattle.thread_stand.specs.declared.end.End.{End}
 use Rattle.thread_stand.specs.declared.end.End.TheVariants.{Ended, Faulted, Spent, Unstarted, Waiting}
 use Rattle.thread_stand.specs.Ends.{is_ended, is_spent, is_waiting}
-use Rattle.outcomes.specs.Asking.{has_unended, has_waiting, marked, tells}
-use Rattle.outcomes.specs.Outcomes.{Has, LeadsTo, ends_in}
+use Rattle.journal_replay.specs.Runs.{TellsEnds, config_of, no_results}
+use Rattle.configurations.specs.Alike.{AllRowsLeft}
+use Rattle.outcomes.specs.Asking.{has_unended, has_waiting, leaves_spent, marked, tells}
+use Rattle.outcomes.specs.Outcomes.{Has, LeadsTo, ends_in, outputs_in}
+use Rattle.outcomes.specs.States.{LeadsFreelyTo}
 use Rattle.outcomes.specs.declared.Extent.{Extent}
 use Rattle.outcomes.specs.declared.Extent.TheVariants.{Cut, First, Whole}
 use Rattle.outcomes.specs.declared.Outcome.{Outcome}
 use Rattle.outcomes.specs.declared.Outcomes.{Outcomes}
 use Rattle.outcomes.specs.declared.asked.Asked.{Asked}
 use Rattle.outcomes.specs.declared.asked.Told.TheVariants.{Lacking, Waiting as TheWaiting}
+use Rattle.configurations.proofs.Fewer.{leads_count}
 use Rattle.configurations.proofs.Leading.{run-leads}
+use Rattle.outcomes.proofs.Resting.{nobody-spent}
 use Rattle.pcml_answers.specs.declared.finding.Finding.TheVariants.{Clear, Open, Stuck}
-use Rattle.pcml_answers.specs.Told.{AreFound, ClearAlwaysEnds, ClearNeverWaits, IsMarked, NamesNeeded, StuckIsLeft, clears, has_stuck, is_clear, is_shown, is_stuck, is_whole, shown}
+use Rattle.pcml_answers.specs.Told.{AreFound, AreFoundFreely, ClearAlwaysEnds, ClearNeverWaits, FreeClearAlwaysEnds, FreeClearNeverWaits, FreeNeverSpends, FreeStuckIsLeft, IsMarked, NamesNeeded, StuckIsLeft, clears, finding, has_stuck, is_clear, is_shown, is_stuck, is_whole, shown}
 
 -- TESTS over lists
 
@@ -160,7 +165,11 @@ unbounded : (b : Bool) → not b ≡ true → b ≡ false
 unbounded true e = absurd (false≢true e)
 unbounded false e = refl
 
-module _ (s : Script) (rows limit : ℕ) (asked : Asked) (found : Outcomes) (are : AreFound s rows limit asked found) (journal : List Commit) (ends : List End) (outputs : List (List Atom)) (leads : LeadsTo s.processes rows journal ends outputs) where
+-- WHAT WAS FOUND SAYS OF A RUN that comes to these ends and this output: where all was seen it has one that is as it, and all have as many
+-- ends
+
+module _ (asked : Asked) (found : Outcomes) (ends : List End) (outputs : List (List Atom)) (all : found.extent ≡ Whole → Has asked.named.items found.outcomes.items ends outputs)
+    (count : (k : ℕ) (o : Outcome) → slice_get found.outcomes.items k ≡ Some o → length (ends_in o) ≡ length ends) where
   abbrev outcomes : List Outcome
   outcomes = found.outcomes.items
 
@@ -168,7 +177,7 @@ module _ (s : Script) (rows limit : ℕ) (asked : Asked) (found : Outcomes) (are
   nothing = is_whole found.extent && (length (shown asked outcomes) == 0)
 
   there : nothing ≡ true → Has asked.named.items outcomes ends outputs
-  there holds = are.all (whole found.extent (both (is_whole found.extent) (length (shown asked outcomes) == 0) holds).0) journal ends outputs leads
+  there holds = all (whole found.extent (both (is_whole found.extent) (length (shown asked outcomes) == 0) holds).0)
 
   hidden : (holds : nothing ≡ true) → is_shown asked (there holds).outcome ≡ false
   hidden holds = none-shown asked 1 outcomes (eqb-true (length (shown asked outcomes)) 0 (both (is_whole found.extent) (length (shown asked outcomes) == 0) holds).1) (there holds).number (there holds).outcome (there holds).is_its
@@ -181,29 +190,10 @@ module _ (s : Script) (rows limit : ℕ) (asked : Asked) (found : Outcomes) (are
       let some : has_waiting named ends ≡ true = any-at (λ p. p.1 && is_waiting p.0) (zip ends named) t (Waiting, true) (zip-at ends named t Waiting true is mark) refl in
       false≢true (sym none ∙ any-marked is_waiting named (ends_in has.outcome) ∙ ap (list_any is_waiting) has.same_ends ∙ sym (any-marked is_waiting named ends) ∙ some)
 
-  never-spent : found.extent ≡ Whole → found.is_bounded ≡ false → Contains ends Spent → ⊥
-  never-spent seen free spent = are.unbounded seen free (record {
-    commits = journal;
-    config = _;
-    leads = run-leads s.processes rows journal leads.run;
-    maximal = leads.maximal;
-    ends = ends;
-    outputs = outputs;
-    tells = leads.tells;
-    spent = any-contained is_spent Spent refl ends spent.0 spent.1 spent.2;
-  })
-    where
-      any-contained : (test : End → Bool) (end : End) → test end ≡ true → (es : List End) (k : ℕ) → k < length es → get_or es k end ≡ end → list_any test es ≡ true
-      any-contained test end holds [] k within is = absurd (omega (arith, within))
-      any-contained test end holds (first ∷ es) zero within is = ap (λ (e : End). test e || list_any test es) is ∙ ap (λ (b : Bool). b || list_any test es) holds
-      any-contained test end holds (first ∷ es) (suc k) within is = later (test first) (list_any test es) (any-contained test end holds es k (omega (arith, within)) is)
-
   always-ends : (needed : Vec Bool) → asked.told ≡ Lacking needed → NamesNeeded asked → nothing ≡ true → (t : ℕ) (end : End) → IsMarked needed.items t → slice_get ends t ≡ Some end → end ≡ Ended
   always-ends needed lacks names holds t end mark is =
       let has = there holds in
-      let outcome = are.outcomes has.number has.outcome has.is_its in
-      let count : length (ends_in has.outcome) ≡ length ends = outcome.leads.tells.ends_count ∙ sym leads.tells.ends_count in
-      let at = marked-at asked.named.items (ends_in has.outcome) ends t end count has.same_ends (names needed lacks t mark) is in
+      let at = marked-at asked.named.items (ends_in has.outcome) ends t end (count has.number has.outcome has.is_its) has.same_ends (names needed lacks t mark) is in
       let none : has_unended needed.items (ends_in has.outcome) ≡ false = sym (ap (λ told. tells told asked.named.items (ends_in has.outcome)) lacks) ∙ hidden holds in
       ended end (none-at (λ p. p.1 && not (is_ended p.0)) (zip (ends_in has.outcome) needed.items) t (end, true) none (zip-at (ends_in has.outcome) needed.items t end true at mark))
     where
@@ -214,37 +204,149 @@ module _ (s : Script) (rows limit : ℕ) (asked : Asked) (found : Outcomes) (are
       ended (Faulted fault) e = absurd (false≢true (sym e))
       ended Unstarted e = absurd (false≢true (sym e))
 
-pub clear_never_waits : ClearNeverWaits
-clear_never_waits s rows limit asked found are waits clear journal ends outputs leads =
-    let holds = is-clear (list_any (has_stuck asked.told) found.outcomes.items) (is_clear asked found) clear in
+-- what is said where nothing is told
+nothing-waits : (asked : Asked) (found : Outcomes) → asked.told ≡ TheWaiting → finding asked found ≡ Clear → ((is_whole found.extent && (length (shown asked found.outcomes.items) == 0)) ≡ true) × (not found.is_bounded ≡ true)
+nothing-waits asked found waits clear =
     let nothing = is_whole found.extent && (length (shown asked found.outcomes.items) == 0) in
-    let parts = both nothing (not found.is_bounded) (sym (ap (λ told. clears told nothing found.is_bounded) waits) ∙ holds) in
-    let seen = whole found.extent (both (is_whole found.extent) (length (shown asked found.outcomes.items) == 0) parts.0).0 in
-    (never-waits s rows limit asked found are journal ends outputs leads waits parts.0, never-spent s rows limit asked found are journal ends outputs leads seen (unbounded found.is_bounded parts.1))
+    both nothing (not found.is_bounded) (sym (ap (λ told. clears told nothing found.is_bounded) waits) ∙ is-clear (list_any (has_stuck asked.told) found.outcomes.items) (is_clear asked found) clear)
 
-pub clear_always_ends : ClearAlwaysEnds
-clear_always_ends s rows limit asked found needed are lacks names clear journal ends outputs leads =
-    let holds = is-clear (list_any (has_stuck asked.told) found.outcomes.items) (is_clear asked found) clear in
+nothing-lacks : (asked : Asked) (found : Outcomes) (needed : Vec Bool) → asked.told ≡ Lacking needed → finding asked found ≡ Clear → (is_whole found.extent && (length (shown asked found.outcomes.items) == 0)) ≡ true
+nothing-lacks asked found needed lacks clear =
     let nothing = is_whole found.extent && (length (shown asked found.outcomes.items) == 0) in
-    always-ends s rows limit asked found are journal ends outputs leads needed lacks names (sym (ap (λ told. clears told nothing found.is_bounded) lacks) ∙ holds)
+    sym (ap (λ told. clears told nothing found.is_bounded) lacks) ∙ is-clear (list_any (has_stuck asked.told) found.outcomes.items) (is_clear asked found) clear
 
-pub stuck_is_left : StuckIsLeft
-stuck_is_left s rows limit asked found needed are lacks stuck =
+-- an outcome in which a process that has to end is stuck
+record StuckIn (found : Outcomes) (needed : List Bool) : Type 0 where
+  number : ℕ
+  outcome : Outcome
+  is_its : slice_get found.outcomes.items number ≡ Some outcome
+  thread : ℕ
+  end : End
+  needed_is : IsMarked needed thread
+  ends_so : slice_get (ends_in outcome) thread ≡ Some end
+  stuck : is_stuck end ≡ true
+
+stuck-in : (asked : Asked) (found : Outcomes) (needed : Vec Bool) → asked.told ≡ Lacking needed → finding asked found ≡ Stuck → StuckIn found needed.items
+stuck-in asked found needed lacks stuck =
     let holds = is-stuck (list_any (has_stuck asked.told) found.outcomes.items) (is_clear asked found) stuck in
     let w = some-holds (has_stuck asked.told) found.outcomes.items holds in
     let test = λ (p : End × Bool). p.1 && is_stuck p.0 in
     let v = some-holds test (zip (ends_in w.1) needed.items) (sym (ap (λ told. has_stuck told w.1) lacks) ∙ w.3) in
     let parts = both v.1.1 (is_stuck v.1.0) v.3 in
     let at = zip-back (ends_in w.1) needed.items v.0 v.1.0 v.1.1 v.2 in
-    let outcome = are.outcomes w.0 w.1 w.2 in
     record {
-      journal = w.1.journal.items;
-      ends = ends_in w.1;
-      outputs = _;
-      leads = outcome.leads;
+      number = w.0;
+      outcome = w.1;
+      is_its = w.2;
       thread = v.0;
       end = v.1.0;
       needed_is = at.1 ∙ ap Some parts.0;
       ends_so = at.0;
       stuck = parts.1;
+    }
+
+-- PROCESSES THAT ARE SPENT
+
+any-contained : (test : End → Bool) (end : End) → test end ≡ true → (es : List End) (k : ℕ) → k < length es → get_or es k end ≡ end → list_any test es ≡ true
+any-contained test end holds [] k within is = absurd (omega (arith, within))
+any-contained test end holds (first ∷ es) zero within is = ap (λ (e : End). test e || list_any test es) is ∙ ap (λ (b : Bool). b || list_any test es) holds
+any-contained test end holds (first ∷ es) (suc k) within is = later (test first) (list_any test es) (any-contained test end holds es k (omega (arith, within)) is)
+
+any-spent : (ends : List End) → Contains ends Spent → leaves_spent ends ≡ true
+any-spent ends spent = any-contained is_spent Spent refl ends spent.0 spent.1 spent.2
+
+-- OF SO MANY ROWS
+
+module _ (s : Script) (rows limit : ℕ) (asked : Asked) (found : Outcomes) (are : AreFound s rows limit asked found) (journal : List Commit) (ends : List End) (outputs : List (List Atom)) (leads : LeadsTo s.processes rows journal ends outputs) where
+  its : found.extent ≡ Whole → Has asked.named.items found.outcomes.items ends outputs
+  its seen = are.all seen journal ends outputs leads
+
+  as-many : (k : ℕ) (o : Outcome) → slice_get found.outcomes.items k ≡ Some o → length (ends_in o) ≡ length ends
+  as-many k o is = (are.outcomes k o is).leads.tells.ends_count ∙ sym leads.tells.ends_count
+
+  never-spent : found.extent ≡ Whole → found.is_bounded ≡ false → Contains ends Spent → ⊥
+  never-spent seen free spent = are.unbounded seen free (record {
+    commits = journal;
+    config = _;
+    leads = run-leads s.processes rows journal leads.run;
+    maximal = leads.maximal;
+    ends = ends;
+    outputs = outputs;
+    tells = leads.tells;
+    spent = any-spent ends spent;
+  })
+
+pub clear_never_waits : ClearNeverWaits
+clear_never_waits s rows limit asked found are waits clear journal ends outputs leads =
+    let parts = nothing-waits asked found waits clear in
+    let seen = whole found.extent (both (is_whole found.extent) (length (shown asked found.outcomes.items) == 0) parts.0).0 in (
+      never-waits asked found ends outputs (its s rows limit asked found are journal ends outputs leads) (as-many s rows limit asked found are journal ends outputs leads) waits parts.0,
+      never-spent s rows limit asked found are journal ends outputs leads seen (unbounded found.is_bounded parts.1),
+    )
+
+pub clear_always_ends : ClearAlwaysEnds
+clear_always_ends s rows limit asked found needed are lacks names clear journal ends outputs leads =
+    always-ends asked found ends outputs (its s rows limit asked found are journal ends outputs leads) (as-many s rows limit asked found are journal ends outputs leads) needed lacks names
+    (nothing-lacks asked found needed lacks clear)
+
+pub stuck_is_left : StuckIsLeft
+stuck_is_left s rows limit asked found needed are lacks stuck =
+    let w = stuck-in asked found needed lacks stuck in
+    record {
+      journal = w.outcome.journal.items;
+      ends = ends_in w.outcome;
+      outputs = _;
+      leads = (are.outcomes w.number w.outcome w.is_its).leads;
+      thread = w.thread;
+      end = w.end;
+      needed_is = w.needed_is;
+      ends_so = w.ends_so;
+      stuck = w.stuck;
+    }
+
+-- OF ANY LENGTH
+
+module _ (s : Script) (journal : List Commit) (ends : List End) (outputs : List (List Atom)) (leads : LeadsFreelyTo s.processes journal ends outputs) where
+  left : AllRowsLeft (suc (length journal)) (config_of journal)
+  left t = omega (arith, leads_count s.processes leads.rows no_results journal (config_of journal) t (run-leads s.processes leads.rows journal leads.run))
+
+  pub free-tells : TellsEnds s.processes (suc (length journal)) (config_of journal) ends outputs
+  free-tells = leads.tells (suc (length journal)) left
+
+pub free_never_spends : FreeNeverSpends
+free_never_spends s journal ends outputs leads spent =
+    let none = nobody-spent s.processes (suc (length journal)) (config_of journal) ends outputs (left s journal ends outputs leads) (free-tells s journal ends outputs leads) in
+    false≢true (sym none ∙ any-spent ends spent)
+
+module _ (s : Script) (limit : ℕ) (asked : Asked) (found : Outcomes) (are : AreFoundFreely s limit asked found) (journal : List Commit) (ends : List End) (outputs : List (List Atom)) (leads : LeadsFreelyTo s.processes journal ends outputs) where
+  free-its : found.extent ≡ Whole → Has asked.named.items found.outcomes.items ends outputs
+  free-its seen = are.all seen journal ends outputs leads
+
+  free-as-many : (k : ℕ) (o : Outcome) → slice_get found.outcomes.items k ≡ Some o → length (ends_in o) ≡ length ends
+  free-as-many k o is =
+      (free-tells s o.journal.items (ends_in o) (outputs_in o) (are.outcomes k o is).leads).ends_count ∙ sym (free-tells s journal ends outputs leads).ends_count
+
+pub free_clear_never_waits : FreeClearNeverWaits
+free_clear_never_waits s limit asked found are waits clear journal ends outputs leads =
+    never-waits asked found ends outputs (free-its s limit asked found are journal ends outputs leads) (free-as-many s limit asked found are journal ends outputs leads) waits
+    (nothing-waits asked found waits clear).0
+
+pub free_clear_always_ends : FreeClearAlwaysEnds
+free_clear_always_ends s limit asked found needed are lacks names clear journal ends outputs leads =
+    always-ends asked found ends outputs (free-its s limit asked found are journal ends outputs leads) (free-as-many s limit asked found are journal ends outputs leads) needed lacks names
+    (nothing-lacks asked found needed lacks clear)
+
+pub free_stuck_is_left : FreeStuckIsLeft
+free_stuck_is_left s limit asked found needed are lacks stuck =
+    let w = stuck-in asked found needed lacks stuck in
+    record {
+      journal = w.outcome.journal.items;
+      ends = ends_in w.outcome;
+      outputs = _;
+      leads = (are.outcomes w.number w.outcome w.is_its).leads;
+      thread = w.thread;
+      end = w.end;
+      needed_is = w.needed_is;
+      ends_so = w.ends_so;
+      stuck = w.stuck;
     }

@@ -13,6 +13,7 @@ use Rattle.thread_stand.specs.declared.end.End.{End}
 use Rattle.thread_stand.specs.declared.end.End.TheVariants.{Ended, Spent, Waiting}
 use Rattle.outcomes.specs.Asking.{is_told, marked}
 use Rattle.outcomes.specs.Outcomes.{AreAll, AreDifferent, AreOutcomes, AreVisited, CanSpend, LeadsTo, StopsAtFirst, ends_in, ends_of_all, outputs_in}
+use Rattle.outcomes.specs.States.{AreAllFree, AreFreeOutcomes, AreStates, LeadsFreelyTo}
 use Rattle.outcomes.specs.declared.Extent.{Extent}
 use Rattle.outcomes.specs.declared.Extent.TheVariants.{Cut, First, Whole}
 use Rattle.outcomes.specs.declared.asked.Asked.{Asked}
@@ -43,19 +44,25 @@ outcome_line number = codes "outcome " ++ decimal number ++ 10 ∷ []
 abbrev pub outcome_text : Naming → List Bool → ℕ × Outcome → List ℕ
 outcome_text names marks n = outcome_line n.0 ++ process_lines names (marked marks (standings (ends_in n.1) (outputs_in n.1)))
 
+-- what was counted: configurations, or the states of runs of any length
+abbrev pub seen_word : Option ℕ → List ℕ
+seen_word (Some rows) = codes "configurations"
+seen_word None = codes "states"
+
 -- whether that is all there is, and within how many syncs a process where some had none left
-abbrev pub extent_text : ℕ → Extent → Bool → List ℕ
+abbrev pub extent_text : Option ℕ → Extent → Bool → List ℕ
 extent_text rows First bounded = codes "first"
 extent_text rows Cut bounded = codes "cut"
-extent_text rows Whole false = codes "all"
-extent_text rows Whole true = codes "all within " ++ decimal rows ++ codes " syncs"
+extent_text None Whole bounded = codes "all"
+extent_text (Some rows) Whole false = codes "all"
+extent_text (Some rows) Whole true = codes "all within " ++ decimal rows ++ codes " syncs"
 
--- how many outcomes are told, how many configurations were seen, and whether that is all
-abbrev pub last_line : ℕ → ℕ → Outcomes → List ℕ
+-- how many outcomes are told, how many configurations or states were seen, and whether that is all
+abbrev pub last_line : Option ℕ → ℕ → Outcomes → List ℕ
 last_line rows told found =
-    codes "outcomes " ++ decimal told ++ codes " configurations " ++ decimal found.visited ++ codes " " ++ extent_text rows found.extent found.is_bounded ++ 10 ∷ []
+    codes "outcomes " ++ decimal told ++ codes " " ++ seen_word rows ++ codes " " ++ decimal found.visited ++ codes " " ++ extent_text rows found.extent found.is_bounded ++ 10 ∷ []
 
-abbrev pub outcomes_text : Naming → ℕ → Asked → Outcomes → List ℕ
+abbrev pub outcomes_text : Naming → Option ℕ → Asked → Outcomes → List ℕ
 outcomes_text names rows asked found =
     flat_map (outcome_text names asked.named.items) (shown asked found.outcomes.items) ++ last_line rows (length (shown asked found.outcomes.items)) found
 
@@ -97,6 +104,24 @@ pub record AreFound (s : Script) (rows limit : ℕ) (asked : Asked) (found : Out
   pub bounded : found.is_bounded ≡ true → CanSpend s.processes rows
   pub unbounded : found.extent ≡ Whole → found.is_bounded ≡ false → CanSpend s.processes rows → ⊥
 
+-- The same in runs of any length: the outcomes are those of runs that can go no further, however many syncs there may be, and no
+-- process is said to be spent. So many states were seen: configurations that differ by what is left to do, or by what was printed by a
+-- process that is named.
+pub record AreFoundFreely (s : Script) (limit : ℕ) (asked : Asked) (found : Outcomes) : Type 0 where
+  pub outcomes : AreFreeOutcomes s.processes found.outcomes.items
+  pub different : AreDifferent asked.named.items found.outcomes.items
+  pub all : found.extent ≡ Whole → AreAllFree s.processes asked.named.items found.outcomes.items
+  pub visited : AreStates s.processes asked.named.items found.extent found.outcomes.items found.visited
+  pub few : found.visited ≤ limit
+  pub cut : found.extent ≡ Cut → found.visited ≡ limit
+  pub first : StopsAtFirst asked found.extent (ends_of_all found.outcomes.items)
+  pub unspent : found.is_bounded ≡ false
+
+-- of so many rows each, or where no number is named in runs of any length
+abbrev pub AreFoundIn : Script → Option ℕ → ℕ → Asked → Outcomes → Type 0
+AreFoundIn s (Some rows) limit asked found = AreFound s rows limit asked found
+AreFoundIn s None limit asked found = AreFoundFreely s limit asked found
+
 -- WHAT IT SAYS of what was asked
 
 -- such a process stands where it will never end: it waits, faulted or was never started
@@ -133,16 +158,16 @@ finding asked found =
     else (if is_clear asked found then Clear else Open)
 
 -- the text of what was found, and of the journal of the outcome that is asked for
-pub record IsListed (s : Script) (rows : ℕ) (asked : Asked) (of : Option ℕ) (found : Outcomes) (t : OutcomesText) : Type 0 where
+pub record IsListed (s : Script) (rows : Option ℕ) (asked : Asked) (of : Option ℕ) (found : Outcomes) (t : OutcomesText) : Type 0 where
   pub text : t.text.items ≡ outcomes_text (named s) rows asked found
   pub journal : SpellsAsked s (asked_for of asked found.outcomes.items) (bytes_of t.journal)
   pub finding_is : t.finding ≡ finding asked found
   pub cut : t.is_cut ≡ is_cut found.extent
 
 -- the text of something that was found
-pub record TellsOutcomes (s : Script) (rows limit : ℕ) (asked : Asked) (of : Option ℕ) (t : OutcomesText) : Type 0 where
+pub record TellsOutcomes (s : Script) (rows : Option ℕ) (limit : ℕ) (asked : Asked) (of : Option ℕ) (t : OutcomesText) : Type 0 where
   pub found : Outcomes
-  pub are : AreFound s rows limit asked found
+  pub are : AreFoundIn s rows limit asked found
   pub is : IsListed s rows asked of found t
 
 -- OUTCOMES OF A SCRIPT
@@ -200,3 +225,42 @@ abbrev pub StuckIsLeft : Type 0
 StuckIsLeft =
     (s : Script) (rows limit : ℕ) (asked : Asked) (found : Outcomes) (needed : Vec Bool) → AreFound s rows limit asked found → asked.told ≡ Lacking needed → finding asked found ≡ Stuck
     → LeavesStuck s rows needed.items
+
+-- LAWS OF RUNS OF ANY LENGTH. They speak of runs that can go no further; a run that goes on without end is none.
+
+-- no run leaves a process spent
+abbrev pub FreeNeverSpends : Type 0
+FreeNeverSpends =
+    (s : Script) (journal : List Commit) (ends : List End) (outputs : List (List Atom)) → LeadsFreelyTo s.processes journal ends outputs → Contains ends Spent → ⊥
+
+-- where what waits was asked for and that is clear, no run leaves a named process waiting
+abbrev pub FreeClearNeverWaits : Type 0
+FreeClearNeverWaits =
+    (s : Script) (limit : ℕ) (asked : Asked) (found : Outcomes) → AreFoundFreely s limit asked found → asked.told ≡ TheWaiting → finding asked found ≡ Clear
+    → (journal : List Commit) (ends : List End) (outputs : List (List Atom)) → LeadsFreelyTo s.processes journal ends outputs
+    → (t : ℕ) → IsMarked asked.named.items t → slice_get ends t ≢ Some Waiting
+
+-- where processes have to end and that is clear, they have ended behind every run
+abbrev pub FreeClearAlwaysEnds : Type 0
+FreeClearAlwaysEnds =
+    (s : Script) (limit : ℕ) (asked : Asked) (found : Outcomes) (needed : Vec Bool) → AreFoundFreely s limit asked found → asked.told ≡ Lacking needed → NamesNeeded asked → finding asked found ≡ Clear
+    → (journal : List Commit) (ends : List End) (outputs : List (List Atom)) → LeadsFreelyTo s.processes journal ends outputs
+    → (t : ℕ) (end : End) → IsMarked needed.items t → slice_get ends t ≡ Some end → end ≡ Ended
+
+-- a run leaves a process that has to end stuck
+pub record FreeLeavesStuck (s : Script) (needed : List Bool) : Type 0 where
+  pub journal : List Commit
+  pub ends : List End
+  pub outputs : List (List Atom)
+  pub leads : LeadsFreelyTo s.processes journal ends outputs
+  pub thread : ℕ
+  pub end : End
+  pub needed_is : IsMarked needed thread
+  pub ends_so : slice_get ends thread ≡ Some end
+  pub stuck : is_stuck end ≡ true
+
+-- where a process that has to end is said to be stuck, some run leaves it so
+abbrev pub FreeStuckIsLeft : Type 0
+FreeStuckIsLeft =
+    (s : Script) (limit : ℕ) (asked : Asked) (found : Outcomes) (needed : Vec Bool) → AreFoundFreely s limit asked found → asked.told ≡ Lacking needed → finding asked found ≡ Stuck
+    → FreeLeavesStuck s needed.items

@@ -10,7 +10,7 @@ ghost use Rattle.journal_text.specs.Names.{named};
 ghost use Rattle.outcomes.specs.Asking.{is_told, marked};
 ghost use Rattle.outcomes.specs.Outcomes.{ends_in, outputs_in};
 ghost use Rattle.pcml_answers.specs.Standings.{process_lines, standings};
-ghost use Rattle.pcml_answers.specs.Told.{AreOf, IsOf, extent_text, is_shown, last_line, outcome_line, outcome_text, shown};
+ghost use Rattle.pcml_answers.specs.Told.{AreOf, IsOf, extent_text, is_shown, last_line, outcome_line, outcome_text, seen_word, shown};
 
 use crate::processes::push_process;
 use outcomes::{Asked, Extent, Outcome, Outcomes};
@@ -100,29 +100,45 @@ pub(crate) fn shown_lines(
     Ok(lines)
 }
 
-/// Appends whether that is all there is, and within how many syncs a process where some had none left.
-fn push_extent(out: &mut String, rows: u32, extent: Extent, bounded: bool) -> Result<(), AllocError>
-    ensures { OnOk result (Adds out.old out.new (extent_text rows extent bounded)) }
+/// What was counted: configurations, or the states of runs of any length.
+fn seen_word(rows: Option<u32>) -> &'static str
+    ensures { result.now ≡ seen_word rows }
 {
-    match extent {
-        Extent::First => out.push_str("first"),
-        Extent::Cut => out.push_str("cut"),
-        Extent::Whole if bounded => write!(out, "all within {rows} syncs"),
-        Extent::Whole => out.push_str("all"),
+    match rows {
+        Some(_) => "configurations",
+        None => "states",
     }
 }
 
-/// Appends how many outcomes are told, how many configurations were seen, and whether that is all.
+/// Appends whether that is all there is, and within how many syncs a process where some had none left.
+fn push_extent(
+    out: &mut String,
+    rows: Option<u32>,
+    extent: Extent,
+    bounded: bool,
+) -> Result<(), AllocError>
+    ensures { OnOk result (Adds out.old out.new (extent_text rows extent bounded)) }
+{
+    match (extent, rows) {
+        (Extent::First, _) => out.push_str("first"),
+        (Extent::Cut, _) => out.push_str("cut"),
+        (Extent::Whole, Some(rows)) if bounded => write!(out, "all within {rows} syncs"),
+        (Extent::Whole, _) => out.push_str("all"),
+    }
+}
+
+/// Appends how many outcomes are told, how many configurations or states were seen, and whether that is all.
 pub(crate) fn push_last_line(
     out: &mut String,
-    rows: u32,
+    rows: Option<u32>,
     told: usize,
     found: &Outcomes,
 ) -> Result<(), AllocError>
     ensures { OnOk result (Adds out.old out.new (last_line rows told found.now)) }
 {
     let visited = found.visited;
-    write!(out, "outcomes {told} configurations {visited} ")?;
+    let seen = seen_word(rows);
+    write!(out, "outcomes {told} {seen} {visited} ")?;
     push_extent(out, rows, found.extent, found.is_bounded)?;
     out.push_str("\n")
 }

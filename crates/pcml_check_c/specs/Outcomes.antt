@@ -1,5 +1,5 @@
 -- What is told of all that a script can come to.
-use Rattle.std.specs.Prelude.{◌≡◌, ◌⊎◌, ◌≤◌, ℕ, false, List}
+use Rattle.std.specs.Prelude.{◌≡◌, ◌⊎◌, ◌≤◌, ◌==◌, if◌then◌else◌, ℕ, false, List, Option, None, Some}
 use Rattle.std.specs.Str.{IsUtf8}
 use Rattle.script.specs.FirstFaults.{Tells}
 use Rattle.script.specs.Sources.{Script}
@@ -10,7 +10,7 @@ use Rattle.outcomes.specs.declared.Outcomes.{Outcomes}
 use Rattle.pcml_answers.specs.declared.need.NamesFault.{NamesFault}
 use Rattle.pcml_answers.specs.declared.need.NamesFault.TheVariants as names
 use Rattle.pcml_request.specs.declared.request.Wanted.{Wanted}
-use Rattle.pcml_answers.specs.Told.{AreFound, NamesNeeded, finding, outcomes_text}
+use Rattle.pcml_answers.specs.Told.{AreFoundIn, NamesNeeded, finding, outcomes_text}
 use Rattle.pcml_answers.specs.declared.finding.Finding.{Finding}
 use Rattle.pcml_answers.specs.declared.finding.Finding.TheVariants as findings
 use Rattle.pcml_texts.specs.Searching.{IsAskedOf, MisnamesAsked}
@@ -21,9 +21,12 @@ use Rattle.pcml_check_c.specs.declared.told.Told.{Told}
 use Rattle.pcml_check_c.specs.declared.refusal.Refusal.{Refusal}
 use Rattle.pcml_check_c.specs.declared.refusal.Refusal.TheVariants as refusals
 
--- the rows of one season
+-- the rows of one season, or 0, which is any number
 abbrev pub AreRows : ℕ → Type 0
-AreRows rows = (1 ≤ rows) × (rows ≤ 1024)
+AreRows rows = rows ≤ 1024
+
+abbrev pub rows_of : ℕ → Option ℕ
+rows_of rows = if rows == 0 then None else Some rows
 
 abbrev pub IsLimit : ℕ → Type 0
 IsLimit limit = (1 ≤ limit) × (limit ≤ 4194304)
@@ -47,10 +50,10 @@ pub record IsSearched (script : List ℕ) (rows limit : ℕ) (need only : List �
   pub asks : IsAskedOf s wanted (given only) false asked
   pub needed : NamesNeeded asked
   pub found : Outcomes
-  pub are : AreFound s rows limit asked found
+  pub are : AreFoundIn s (rows_of rows) limit asked found
   pub code : told.code ≡ code_of_finding (finding asked found)
   pub line : told.line ≡ 0
-  pub text : told.text.items ≡ outcomes_text (named s) rows asked found
+  pub text : told.text.items ≡ outcomes_text (named s) (rows_of rows) asked found
 
 -- a name that no process of the script has, of those that are needed or of the others
 pub record Misnames (script need only : List ℕ) (fault : NamesFault) : Type 0 where

@@ -1,7 +1,7 @@
 //! What is told of all that a script can come to.
 
 ghost use Rattle.std.specs.Prelude.{◌≡◌, IfErr, IfOk};
-ghost use Rattle.pcml_check_c.specs.Outcomes.{IsSearched, RefusesOutcomes, code_of_finding};
+ghost use Rattle.pcml_check_c.specs.Outcomes.{IsSearched, RefusesOutcomes, code_of_finding, rows_of};
 
 use crate::names::{names_in, wanted_by};
 use crate::refusal::Refusal;
@@ -12,7 +12,7 @@ use pcml_texts::asked_of;
 use script::parse;
 use std::alloc::Global;
 
-/// The most rows of a process, in one season.
+/// The most rows of a process.
 const MOST_ROWS: u32 = 1024;
 /// The most configurations that are looked at.
 const MOST_CONFIGURATIONS: u32 = 4194304;
@@ -27,6 +27,13 @@ fn code_of_finding(finding: Finding) -> Code
     }
 }
 
+/// The rows of a process, where there is a number of them: 0 is any number.
+fn rows_of(rows: u32) -> Option<u32>
+    ensures { result ≡ rows_of rows }
+{
+    if rows == 0 { None } else { Some(rows) }
+}
+
 /// What the script can come to.
 pub(crate) fn searched(
     alloc: Global,
@@ -39,7 +46,7 @@ pub(crate) fn searched(
     ensures told { IfOk result (IsSearched script.now rows limit need.now only.now) }
     ensures refused { IfErr result (RefusesOutcomes script.now rows limit need.now only.now) }
 {
-    if rows < 1 || rows > MOST_ROWS {
+    if rows > MOST_ROWS {
         return Err(Refusal::Rows);
     }
     if limit < 1 || limit > MOST_CONFIGURATIONS {
@@ -49,6 +56,7 @@ pub(crate) fn searched(
     let names = names_in(only)?;
     let script = parse(alloc, script)?;
     let asked = asked_of(alloc, &script, wanted_by(needed), names, false)?;
+    let rows = rows_of(rows);
     let limit = limit as usize;
     let listed = outcomes_text(alloc, &script, rows, limit, &asked, None, &mut Unwatched)?;
     Ok(Told {

@@ -84,23 +84,29 @@ COMMANDS
        outcomes
               Tells all that a script can come to: for each outcome its
               number and a line for each process, then how many outcomes
-              there are, how many configurations were seen, and whether that
-              is all: whether no run within --rows syncs a process comes to
-              anything else. Where a process of some outcome is spent, the
-              last line ends with all within and that number of syncs. In
-              which order outcomes are told is open.
+              there are, how many states were seen, and whether that is all:
+              whether no run, however long, comes to an end that is not told.
+              A run that goes on for ever comes to none. In which order
+              outcomes are told is open.
 
-              With --need it is a test that some processes always come to
-              their end: the status is 0 only where they do.
+              With --need it is a test that some processes never get stuck:
+              the status is 0 only where each run that comes to an end brings
+              them to theirs.
 
-              A configuration is how far each process has come, by what its
-              syncs were given. There are many where many processes have
-              little to do with one another. Where there are more than
-              --limit, the last line ends with cut, and standard error says
-              what helps: a larger --limit; fewer --rows or messages; and,
-              where there are many outcomes, --need or --only.  Where
-              standard error is a terminal, it shows once a second how many
-              were seen and how many are open.
+              A state is what each process has left to do, and what it has
+              printed, of those that are told. There are many where many
+              processes have little to do with one another, and more and more
+              where a process counts or prints for ever. Where there are more
+              than --limit, the last line ends with cut, and standard error
+              says what helps: a larger --limit; --only or fewer messages; or
+              --rows.  Where standard error is a terminal, it shows once a
+              second how many were seen and how many are open.
+
+              With --rows it is of the runs alone in which a process makes at
+              most G syncs. In place of the states configurations are
+              counted: how far each process has come, by what its syncs were
+              given. Where a process of some outcome is spent, the last line
+              ends with all within and that number of syncs.
 
        check  Checks the text of a script, and prints how many processes and
               channels it has.
@@ -140,10 +146,10 @@ OPTIONS
               processes, 1 to 16; else 4.
 
        --rows G
-              How many syncs a process may make, 1 to 1024; else 256.
-              replay, why, chart and stats have to be told what the run had,
-              or they take a process for spent that was not, and the other
-              way round.
+              How many syncs a process may make, 1 to 1024; else 256, and of
+              outcomes any number.  replay, why, chart and stats have to be
+              told what the run had, or they take a process for spent that
+              was not, and the other way round.
 
        --seasons K
               How many tables of G rows a process a run may take, 1 to 65535.
@@ -189,23 +195,24 @@ OPTIONS
               standard error then says that no other command reads it.  For
               outcomes it is a journal that leads to the outcome of --of, or
               else to the first that is told; where there is no such outcome,
-              TO stays as it is.
+              TO stays as it is. Where a process makes more than 256 syncs in
+              it, replay, why and others want --rows or --seasons.
 
        --of K The number of the outcome whose journal is written, from 1.
               Where there is none of that number, the status is 1.
 
        --limit C
-              How many configurations are seen, 1 to 4194304; else 1048576.
-              Where there are more, the last line ends with cut in place of
-              all.
+              How many states are seen, or with --rows configurations, 1 to
+              4194304; else 1048576. Where there are more, the last line ends
+              with cut in place of all.
 
        --waiting
               Tells only the outcomes in which some process that is told is
               left waiting. The status is 0 only where there are none, all
-              was seen, and no process of any outcome is spent: of a process
-              that is spent nothing is known. It cannot tell a server that
-              waits for its next client from a client that is stuck: both
-              wait. Where a script has servers, --need can.
+              was seen, and with --rows no process of any outcome is spent:
+              of a process that is spent nothing is known. It cannot tell a
+              server that waits for its next client from a client that is
+              stuck: both wait. Where a script has servers, --need can.
 
        --first
               Stops at the first outcome that is told: the last line then
@@ -234,12 +241,14 @@ OPTIONS
               Of outcomes only those outcomes are told in which one of these
               has not ended, by the numbers that they have among all. The
               status is 3 where one of these is left waiting, has faulted or
-              was never started. Else it is 1 where one of these is spent, or
-              the search was cut: whether it ends is not known then. Else it
-              is 0, and each run within --rows syncs a process brings them to
-              their end.  Name the clients, and not a server that waits for
-              its next client for ever. It does not go together with
-              --waiting.
+              was never started. Else it is 1 where the search was cut, or
+              with --rows one of these is spent: whether it ends is not known
+              then. Else it is 0, and each run that comes to an end brings
+              them to theirs, with --rows each run within so many syncs a
+              process. Of a run that goes on for ever, in which a process may
+              be overtaken without end, it says nothing.  Name the clients,
+              and not a server that waits for its next client for ever. It
+              does not go together with --waiting.
 
        -h, --help
               Prints the help.
@@ -349,8 +358,8 @@ EXAMPLES
               Lists the processes that wait in the end.
 
        pcml outcomes s.pcml --need client_a,client_b || exit 1
-              Tests that these two never get stuck within 256 syncs a
-              process, for a test of one's own.
+              Tests that these two never get stuck, however long a run is,
+              for a test of one's own.
 
        pcml outcomes s.pcml --need all --first --journal s.journal || pcml
        why s.pcml s.journal

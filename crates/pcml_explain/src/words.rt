@@ -45,8 +45,8 @@ pub(crate) const SPENT: &str = "\
 spent: a process came to one more sync than --rows allows, and does not offer it
 example: pcml run FILE --rows 4 tells a spent, where FILE is
   process a { forever { sync always (); } }
-what to do: allow more by --rows, at most 1024, or run it in seasons by --seasons. replay, why, chart, outcomes
-and next have to be told the --rows of the run.
+what to do: allow more by --rows, at most 1024, or run it in seasons by --seasons. replay, why, chart and next have
+to be told the --rows of the run. Without --rows outcomes is of runs of any length, in which none is spent.
 ";
 
 pub(crate) const UNSTARTED: &str = "\
@@ -139,9 +139,10 @@ those alone in which one of these has not ended.
 
 pub(crate) const CONFIGURATION: &str = "\
 configuration: how far each process has come, by what each of its syncs was given
-comes about: pcml outcomes goes from one to the next, and its last line tells how many it saw. Where there are more
+comes about: pcml outcomes --rows G goes from one to the next, and its last line tells how many it saw. Without --rows
+those are one, a state, in which the same is left to do, and whoever is told has printed the same. Where there are more
 than --limit allows, that line ends with cut.
-example: pcml outcomes FILE tells configurations 3, where FILE is
+example: pcml outcomes FILE tells states 3, where FILE is
   process a { x <- sync choose [always (1), always (2)]; print x; }
-what to do: where it ends with cut, allow more by --limit, at most 4194304, or have fewer by fewer --rows or messages.
+what to do: where it ends with cut, allow more by --limit, at most 4194304, or have fewer by --only or fewer messages.
 ";

@@ -9,11 +9,12 @@ abbrev pub all_rows : ℕ → Option ℕ → ℕ
 all_rows rows None = rows
 all_rows rows (Some seasons) = seasons * rows
 
--- Of a fault that is to be explained there is one, processes that are run, whose journal is followed or whose outcomes are looked for have at
--- most 1024 rows a season, and outcomes are looked for in one configuration at least, and numbered from 1.
+-- Of a fault that is to be explained there is one. Processes that are run or whose journal is followed have at most 1024 rows a season, and so
+-- have those whose outcomes are looked for, where a number of rows is named. Outcomes are looked for in 1 to 4194304 configurations, and numbered
+-- from 1.
 abbrev pub CanBeAnswered : Request → Type 0
 CanBeAnswered (Explain topic) = IsTrue (is_topic topic)
 CanBeAnswered (Run asked) = asked.rows ≤ 1024
 CanBeAnswered (OfJournal asked) = asked.rows ≤ 1024
-CanBeAnswered (Outcomes search) = (search.rows ≤ 1024) × (1 ≤ search.limit) × IfSome search.of (λ number. 1 ≤ number)
+CanBeAnswered (Outcomes search) = IfSome search.rows (λ rows. rows ≤ 1024) × (1 ≤ search.limit) × (search.limit ≤ 4194304) × IfSome search.of (λ number. 1 ≤ number)
 CanBeAnswered asked = Unit {0}

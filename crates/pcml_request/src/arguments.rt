@@ -26,6 +26,16 @@ pub(crate) fn rows_argument<'a>(alloc: Global) -> Arg<'a> {
         .help("How many syncs a process may make, 1 to 1024")
 }
 
+/// The rows of a search, which without them is of runs of any length.
+pub(crate) fn bound_argument<'a>(alloc: Global) -> Arg<'a> {
+    Arg::new(alloc, "rows")
+        .long("rows")
+        .action(ArgAction::Set)
+        .value_name("G")
+        .value_parser(value_parser!(u16).range(1..=1024))
+        .help("Only of runs in which a process makes at most G syncs, 1 to 1024")
+}
+
 pub(crate) fn seasons_argument<'a>(alloc: Global) -> Arg<'a> {
     Arg::new(alloc, "seasons")
         .long("seasons")
@@ -98,7 +108,7 @@ pub(crate) fn limit_argument<'a>(alloc: Global) -> Arg<'a> {
         .value_name("C")
         .value_parser(value_parser!(u32).range(1..=4194304))
         .default_value("1048576")
-        .help("How many configurations are seen, 1 to 4194304")
+        .help("How many configurations, or without --rows states, are seen, 1 to 4194304")
 }
 
 pub(crate) fn of_argument<'a>(alloc: Global) -> Result<Arg<'a>, AllocError> {

@@ -1,8 +1,9 @@
 //! A command of the program for each request, and the request by the words behind it.
 
 use crate::arguments::{
-    arguments_of_journal, file_argument, flag_argument, kept_argument, limit_argument, of_argument,
-    optional_file_argument, rows_argument, seasons_argument, stamp_argument,
+    arguments_of_journal, bound_argument, file_argument, flag_argument, kept_argument,
+    limit_argument, of_argument, optional_file_argument, rows_argument, seasons_argument,
+    stamp_argument,
 };
 use crate::request::{Drawing, Form, OfJournal, Question, Request, Running, Search, Wanted};
 use clap::{Arg, ArgAction, ArgMatches, Command, value_parser};
@@ -185,7 +186,7 @@ fn outcomes_command<'a>(alloc: Global) -> Result<Command<'a>, AllocError> {
     );
     let arguments = vec![in alloc;
         file,
-        rows_argument(alloc),
+        bound_argument(alloc),
         limit_argument(alloc),
         waiting.conflicts_with("need")?,
         need_argument(
@@ -218,7 +219,7 @@ fn wanted_of<'a>(outcomes: &ArgMatches<'a>) -> Wanted<'a> {
 fn outcomes_request<'a>(outcomes: &ArgMatches<'a>) -> Option<Request<'a>> {
     Some(Request::Outcomes(Search {
         script: outcomes.get_str("file")?,
-        rows: outcomes.get_one("rows")?,
+        rows: outcomes.get_one("rows"),
         limit: outcomes.get_one("limit")?,
         wanted: wanted_of(outcomes),
         only: outcomes.get_str("only"),

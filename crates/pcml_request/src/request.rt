@@ -15,15 +15,15 @@ pub enum Wanted<'a> {
     Lacking(&'a str),
 }
 
-/// What is to be found of all that the script in a file can come to, of so many rows a process, where at most so
-/// many configurations are seen: the outcomes that are wanted, or where it is asked the first of them alone. Where
-/// names are given (separated by commas, or `all`), only the processes of these names, and those that are wanted to
+/// What is to be found of all that the script in a file can come to, of so many rows a process, or of any number where
+/// none is named, and where at most so many configurations are seen: the outcomes that are wanted, or where it is asked
+/// the first of them alone. Where names are given (separated by commas, or `all`), only the processes of these names, and those that are wanted to
 /// end, make one outcome another, and are told. The journal that leads to one of them goes to a file, where one is
 /// named: to the one of the number `of`, from 1, and else to the first that is told.
 #[derive(Clone, Copy, Debug)]
 pub struct Search<'a> {
     pub script: &'a str,
-    pub rows: u16,
+    pub rows: Option<u16>,
     pub limit: u32,
     pub wanted: Wanted<'a>,
     pub only: Option<&'a str>,

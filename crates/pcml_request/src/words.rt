@@ -22,8 +22,12 @@ fn range_objection(asked: &Request<'_>) -> Option<&'static str>
         },
         Request::OfJournal(OfJournal { rows, .. })
         | Request::Run(Running { rows, .. })
-        | Request::Outcomes(Search { rows, .. })
-            if *rows > 1024 => { Some("a process makes at most 1024 syncs in a season") }
+        | Request::Outcomes(
+            Search {
+                rows: Some(rows),
+                ..
+            },
+        ) if *rows > 1024 => { Some("a process makes at most 1024 syncs in a season") }
         Request::OfJournal(
             OfJournal {
                 question: Question::Chart(Drawing { from, to, .. }),
@@ -31,6 +35,9 @@ fn range_objection(asked: &Request<'_>) -> Option<&'static str>
             },
         ) if from > to => { Some("no stamp is from the one to the other") }
         Request::Outcomes(Search { limit: 0, .. }) => Some("at least one configuration is seen"),
+        Request::Outcomes(Search { limit, .. }) if *limit > 4194304 => {
+            Some("at most 4194304 configurations are seen")
+        }
         Request::Outcomes(Search { of: Some(0), .. }) => Some("the outcomes are numbered from 1"),
         _ => None,
     }

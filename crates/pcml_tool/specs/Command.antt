@@ -48,7 +48,7 @@ use Rattle.journal_text.specs.Names.{named}
 use Rattle.outcomes.specs.declared.Outcomes.{Outcomes as Found}
 use Rattle.outcomes.specs.declared.asked.Asked.{Asked}
 use Rattle.outcomes.specs.Asking.{has_unended}
-use Rattle.pcml_answers.specs.Told.{AreFound, NamesNeeded, SpellsAsked, asked_for, finding, outcomes_text}
+use Rattle.pcml_answers.specs.Told.{AreFoundIn, NamesNeeded, SpellsAsked, asked_for, finding, outcomes_text}
 use Rattle.pcml_tool.specs.Searching.{FailsAsked, IsAskedBy, verdict_of}
 use Rattle.script_mistakes.specs.Short.{TellsWhyShort}
 use Rattle.script_mistakes.specs.Telling.{TellsWhyNot}
@@ -144,7 +144,7 @@ pub record AnswersOutcomes (Holds Keeps : Files) (search : Search) (verdict : Ve
   pub asks : IsAskedBy s search asked
   pub needed : NamesNeeded asked
   pub found : Found
-  pub are : AreFound s search.rows search.limit asked found
+  pub are : AreFoundIn s search.rows search.limit asked found
   pub lines : Option (List ℕ)
   pub is_asked : SpellsAsked s (asked_for search.of asked found.outcomes.items) lines
   pub kept : KeepsAsked Holds Keeps (option_copied search.journal) lines

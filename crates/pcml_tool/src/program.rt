@@ -178,6 +178,16 @@ fn answer_run<R: Threads + Wait + Sync, S: Source>(
     })
 }
 
+/// The rows of a process, where a number is named.
+fn rows_of(rows: Option<u16>) -> Option<u32>
+    ensures { result ≡ rows }
+{
+    match rows {
+        Some(rows) => Some(u32::from(rows)),
+        None => None,
+    }
+}
+
 /// What is answered of all that a script can come to; the journal of an outcome is kept, where that is asked for.
 fn answer_search<S: Source, W: Watch>(
     alloc: Global,
@@ -191,10 +201,10 @@ fn answer_search<S: Source, W: Watch>(
 {
     let script = read_script(alloc, source, search.script)?;
     let asked = asked_of(alloc, &script, &search)?;
-    let rows = u32::from(search.rows);
+    let rows = rows_of(search.rows);
     let limit = search.limit as usize;
     let listed = outcomes_text(alloc, &script, rows, limit, &asked, search.of, watch)?;
-    let answer = keep_outcome(source, listed, search.of, search.journal)?;
+    let answer = keep_outcome(source, listed, &search)?;
     Ok(answer)
 }
 

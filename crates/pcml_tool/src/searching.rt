@@ -16,9 +16,13 @@ use pcml_request::Search;
 use script::Script;
 use std::alloc::Global;
 
-/// What is told behind an answer for which not all was seen.
+/// What is told behind an answer for which not all was seen, of so many rows a process.
 const CUT: &str =
     "cut: not all configurations were seen. A larger --limit (up to 4194304) sees more; fewer --rows or messages make fewer. --need and --only tell less of what was seen.\n";
+
+/// The same of runs of any length.
+const CUT_STATES: &str =
+    "cut: not all states were seen. A larger --limit (up to 4194304) sees more; --only or fewer messages make fewer. --rows looks at runs of so many syncs a process alone.\n";
 
 /// What a search asks for. Of the names of the processes that have to end, and then of those that are named alone, the
 /// first that no process has is a fault.
@@ -43,18 +47,26 @@ fn verdict_of(finding: Finding, is_asked: bool, is_there: bool) -> Verdict
     }
 }
 
+/// What is told behind an answer for which not all was seen, or nothing.
+fn advice_of(is_cut: bool, rows: Option<u16>) -> &'static str {
+    match rows {
+        Some(_) if is_cut => CUT,
+        None if is_cut => CUT_STATES,
+        Some(_) | None => "",
+    }
+}
+
 /// Keeps the journal of the outcome that is asked for in a file, where one is named and there is such an outcome, and
 /// gives what is answered.
 pub(crate) fn keep_outcome<S: Source>(
     source: &mut S,
     listed: OutcomesText,
-    of: Option<u32>,
-    journal: Option<&str>,
+    search: &Search<'_>,
 ) -> Result<Answer, Fault>
-    ensures kept { OnOk result (KeepsAsked (S.holds source.old) (S.holds source.new) (option_copied journal.entry) (bytes_of listed.journal)) }
-    ensures verdict { IfOk result (λ answer. answer.verdict ≡ verdict_of listed.finding (is_some of) (is_some (bytes_of listed.journal))) }
+    ensures kept { OnOk result (KeepsAsked (S.holds source.old) (S.holds source.new) (option_copied search.now.journal) (bytes_of listed.journal)) }
+    ensures verdict { IfOk result (λ answer. answer.verdict ≡ verdict_of listed.finding (is_some search.now.of) (is_some (bytes_of listed.journal))) }
     ensures printed { IfOk result (λ answer. answer.text.items ≡ listed.text.items) }
-    ensures fault { IfErr result (IsOfKeeping journal.entry) }
+    ensures fault { IfErr result (IsOfKeeping search.now.journal) }
 {
     let OutcomesText {
         text,
@@ -63,12 +75,12 @@ pub(crate) fn keep_outcome<S: Source>(
         is_cut,
     } = listed;
     let is_there = lines.is_some();
-    if let (Some(lines), Some(name)) = (lines, journal) {
+    if let (Some(lines), Some(name)) = (lines, search.journal) {
         source.store(name, &lines)?;
     }
     Ok(Answer {
-        verdict: verdict_of(finding, of.is_some(), is_there),
+        verdict: verdict_of(finding, search.of.is_some(), is_there),
         text,
-        advice: if is_cut { CUT } else { "" },
+        advice: advice_of(is_cut, search.rows),
     })
 }

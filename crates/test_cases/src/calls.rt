@@ -53,10 +53,13 @@ struct Listing<'a> {
     extent: &'a str,
 }
 
-/// The number of outcomes and what is told of the search behind it, without how many configurations were seen.
+/// The number of outcomes and what is told of the search behind it, without how many configurations or states were seen.
 fn read_counts(line: &str) -> (&str, &str) {
     let (count, behind) = line.split_once(' ').unwrap_or((line, ""));
-    match behind.strip_prefix("configurations ") {
+    let seen = behind
+        .strip_prefix("configurations ")
+        .or(behind.strip_prefix("states "));
+    match seen {
         Some(seen) => (count, seen.split_once(' ').unwrap_or((seen, "")).1),
         None => (count, behind),
     }

@@ -96,9 +96,9 @@ pub struct Judged {
 /// What is asked of all that a script can come to.
 #[derive(Clone, Copy, Debug, PartialEq, Eq)]
 pub struct Search<'a> {
-    /// The most syncs of a process, 1 to 1024.
+    /// The most syncs of a process, 1 to 1024; 0 is any number.
     pub rows: u32,
-    /// The most configurations that are looked at, 1 to 4,194,304.
+    /// The most configurations, or with 0 rows states, that are looked at, 1 to 4,194,304.
     pub limit: u32,
     /// The processes that have to end: names with commas between, or `all`; an empty text is nobody.
     pub need: &'a str,
@@ -109,7 +109,7 @@ pub struct Search<'a> {
 impl Default for Search<'_> {
     fn default() -> Self {
         Search {
-            rows: 256,
+            rows: 0,
             limit: 1_048_576,
             need: "",
             only: "",

@@ -54,6 +54,10 @@ fn searches() {
     let asked = Search::default();
     assert_eq!(
         outcomes(PAIR, &asked).unwrap().text,
+        "outcome 1\na ended\nb ended 42\noutcomes 1 states 2 all\n"
+    );
+    assert_eq!(
+        outcomes(PAIR, &Search { rows: 9, ..asked }).unwrap().text,
         "outcome 1\na ended\nb ended 42\noutcomes 1 configurations 2 all\n"
     );
     assert_eq!(

@@ -1,4 +1,4 @@
-use Rattle.pcml_answers.proofs.Clearing.{clear_always_ends, clear_never_waits, stuck_is_left}
+use Rattle.pcml_answers.proofs.Clearing.{clear_always_ends, clear_never_waits, free_clear_always_ends, free_clear_never_waits, free_never_spends, free_stuck_is_left, stuck_is_left}
 use Rattle.pcml_answers.proofs.listing.outcomes_laws.Goals as goal
 
 pub returns-clause-waiting : goal.returns-clause-waiting
@@ -9,3 +9,15 @@ returns-clause-ends c = clear_always_ends
 
 pub returns-clause-stuck : goal.returns-clause-stuck
 returns-clause-stuck c = stuck_is_left
+
+pub returns-clause-unspent : goal.returns-clause-unspent
+returns-clause-unspent c = free_never_spends
+
+pub returns-clause-waiting_freely : goal.returns-clause-waiting_freely
+returns-clause-waiting_freely c = free_clear_never_waits
+
+pub returns-clause-ends_freely : goal.returns-clause-ends_freely
+returns-clause-ends_freely c = free_clear_always_ends
+
+pub returns-clause-stuck_freely : goal.returns-clause-stuck_freely
+returns-clause-stuck_freely c = free_stuck_is_left

@@ -1,37 +1,5 @@
-use Rattle.std.proofs.Common.{◌≡◌, List, true, false, subst}
 use Rattle.std.proofs.lemmas.Result.{IfOk-weaker}
-use Rattle.script.specs.Scripts.{script_of}
-use Rattle.script_tree.specs.Processes.{Proc}
-use Rattle.journal_text.proofs.Lining.{run_has_lines}
-use Rattle.outcomes.specs.Outcomes.{AreAll, AreOutcomes, AreVisited, CanSpend}
-use Rattle.outcomes.specs.declared.Extent.TheVariants.{Whole}
-use Rattle.pcml_answers.specs.Told.{AreFound}
 use Rattle.pcml_answers.proofs.listing.outcomes_text.Goals as goal
 
-pub found_text-requires-clause-lines : goal.found_text-requires-clause-lines
-found_text-requires-clause-lines g c k o is =
-    let s = script_of c.args.script.now in
-    let outcomes = c.in_ok-found.found.outcomes.items in
-    let told : AreOutcomes s.processes c.args.rows outcomes = subst (λ (ps : List Proc). AreOutcomes ps c.args.rows outcomes) c.processes.ensures.value c.in_ok-found.ensures.told in
-    run_has_lines s c.processes.ensures.spelled c.args.rows c.requires.rows o.journal.items (told k o is).leads.run
-
 pub returns : goal.returns
-returns g c =
-    let s = script_of c.args.script.now in
-    let rows = c.args.rows in
-    let asked = c.args.asked.now in
-    let found = c.in_ok-found.found in
-    let told = c.in_ok-found.ensures in
-    let same = c.processes.ensures.value in
-    let are : AreFound s rows c.args.limit asked found = record {
-      outcomes = subst (λ (ps : List Proc). AreOutcomes ps rows found.outcomes.items) same told.told;
-      different = told.different;
-      all = subst (λ (ps : List Proc). found.extent ≡ Whole → AreAll ps rows asked.named.items found.outcomes.items) same told.whole;
-      visited = subst (λ (ps : List Proc). AreVisited ps rows found.extent found.outcomes.items found.visited) same told.visited;
-      few = told.few;
-      cut = told.cut;
-      first = told.first;
-      bounded = subst (λ (ps : List Proc). found.is_bounded ≡ true → CanSpend ps rows) same told.bounded;
-      unbounded = subst (λ (ps : List Proc). found.extent ≡ Whole → found.is_bounded ≡ false → CanSpend ps rows → ⊥) same told.unbounded;
-    } in
-    IfOk-weaker c.found_text.result _ _ (λ t is. record { found = found; are = are; is = is }) c.found_text.ensures
+returns g c = IfOk-weaker c.found_text.result _ _ (λ t is. record { found = c.in_ok-found.found; are = c.in_ok-found.ensures.found; is = is }) c.found_text.ensures

@@ -1,10 +1,10 @@
-use Rattle.std.proofs.Common.{◌∙◌, ℕ, List, Option, ap, false, refl, subst}
+use Rattle.std.proofs.Common.{◌∙◌, ℕ, List, None, Option, ap, false, refl, subst}
 use Rattle.script.specs.Scripts.{script_of}
 use Rattle.pcml_answers.specs.Told.{TellsOutcomes}
 use Rattle.pcml_answers.specs.declared.finding.Finding.{Finding}
 use Rattle.pcml_texts.specs.Searching.{IsAskedOf}
 use Rattle.pcml_check_c.specs.Names.{Wants}
-use Rattle.pcml_check_c.specs.Outcomes.{code_of_finding}
+use Rattle.pcml_check_c.specs.Outcomes.{code_of_finding, rows_of}
 use Rattle.pcml_check_c.proofs.searching.searched.Goals as goal
 
 pub returns-clause-told : goal.returns-clause-told
@@ -12,7 +12,8 @@ returns-clause-told c =
     let s = script_of c.in_ok-script.script in
     let wanted = c.wanted_by.result in
     let asked = c.in_ok-asked.asked in
-    let told : TellsOutcomes s c.args.rows c.args.limit asked _ c.in_ok-listed.listed = c.in_ok-listed.ensures in
+    let told : TellsOutcomes s (rows_of c.args.rows) c.args.limit asked None c.in_ok-listed.listed =
+    subst (λ (rows : Option ℕ). TellsOutcomes s rows c.args.limit asked None c.in_ok-listed.listed) c.rows_of.ensures c.in_ok-listed.ensures in
     record {
       numbers = search;
       s = s;
