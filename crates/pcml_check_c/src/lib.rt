@@ -73,9 +73,9 @@ pub extern "C" fn pcml_check_journal(
     hand_out(judged(alloc, script, journal, rows), text)
 }
 
-/// What the script can come to, of so many rows a process, as far as so many configurations show it. Where names are
-/// needed, only the outcomes are told in which one of their processes has not ended; where names are given, only their
-/// processes make one outcome another. No bytes are no names.
+/// What the script can come to, of so many rows a process, or with 0 in runs of any length, as far as so many
+/// configurations show it. Where names are needed, only the outcomes are told in which one of their processes has not
+/// ended; where names are given, only their processes make one outcome another. No bytes are no names.
 #[unsafe(no_mangle)]
 pub extern "C" fn pcml_outcomes(
     alloc: Global,

@@ -13,7 +13,7 @@ returns-clause-told c =
     let wanted = c.wanted_by.result in
     let asked = c.in_ok-asked.asked in
     let told : TellsOutcomes s (rows_of c.args.rows) c.args.limit asked None c.in_ok-listed.listed =
-    subst (λ (rows : Option ℕ). TellsOutcomes s rows c.args.limit asked None c.in_ok-listed.listed) c.rows_of.ensures c.in_ok-listed.ensures in
+    subst (λ (rows : Option ℕ). TellsOutcomes s rows c.args.limit asked None c.in_ok-listed.listed) c.rows_of-rows.ensures c.in_ok-listed.ensures in
     record {
       numbers = search;
       s = s;

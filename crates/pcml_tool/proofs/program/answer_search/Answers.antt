@@ -22,7 +22,7 @@ returns-clause-done g c =
     let asked = c.in_ok-asked.asked in
     let listed = c.in_ok-listed.listed in
     let told : TellsOutcomes s search.rows search.limit asked search.of listed =
-    subst (λ (rows : Option ℕ). TellsOutcomes s rows search.limit asked search.of listed) c.rows_of.ensures c.in_ok-listed.ensures in
+    subst (λ (rows : Option ℕ). TellsOutcomes s rows search.limit asked search.of listed) c.rows_of-rows.ensures c.in_ok-listed.ensures in
     let holds = g.S.Source.holds in
     let name = option_copied search.journal in
     let lines = bytes_of listed.journal in
