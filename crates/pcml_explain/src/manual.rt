@@ -96,11 +96,13 @@ COMMANDS
               A state is what each process has left to do, and what it has
               printed, of those that are told. There are many where many
               processes have little to do with one another, and more and more
-              where a process counts or prints for ever. Where there are more
-              than --limit, the last line ends with cut, and standard error
-              says what helps: a larger --limit; --only or fewer messages; or
-              --rows.  Where standard error is a terminal, it shows once a
-              second how many were seen and how many are open.
+              where a process counts or prints for ever. Each keeps all that
+              was printed, so whoever prints for ever takes much memory, and
+              is left out by --only.  Where there are more than --limit, the
+              last line ends with cut, and standard error says what helps: a
+              larger --limit; --only or fewer messages; or --rows.  Where
+              standard error is a terminal, it shows once a second how many
+              were seen and how many are open.
 
               With --rows it is of the runs alone in which a process makes at
               most G syncs. In place of the states configurations are
