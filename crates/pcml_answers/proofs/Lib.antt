@@ -12,3 +12,4 @@ pub mod Showing
 pub mod Asking
 pub mod Following
 pub mod Clearing
+pub mod Endings

@@ -1,5 +1,5 @@
 -- What is told of the outcomes that were found.
-use Rattle.std.specs.Prelude.{◌≡◌, ◌≢◌, ◌≤◌, ◌-◌, ◌==◌, ◌&&◌, not, if◌then◌else◌, ℕ, Bool, true, false, List, [], ◌∷◌, ◌++◌, length, codes, Contains, Option, None, Some, IfSome, slice_get, ⊤}
+use Rattle.std.specs.Prelude.{◌≡◌, ◌≢◌, ◌⊎◌, ◌<◌, ◌≤◌, ◌+◌, ◌-◌, ◌==◌, ◌&&◌, not, if◌then◌else◌, ℕ, Bool, true, false, List, [], ◌∷◌, ◌++◌, length, codes, Contains, Option, None, Some, IfSome, slice_get, ⊤}
 use Rattle.std.specs.Fmt.{decimal}
 use Rattle.std.specs.List.{AllByRecursion, enumerate_from, filter, find, flat_map, list_any, zip}
 use Rattle.std.specs.Global.{Vec}
@@ -11,9 +11,12 @@ use Rattle.journal_text.specs.Journals.{HasLine, Spells}
 use Rattle.journal_text.specs.Names.{Naming, named, names_of}
 use Rattle.thread_stand.specs.declared.end.End.{End}
 use Rattle.thread_stand.specs.declared.end.End.TheVariants.{Ended, Spent, Waiting}
+use Rattle.configurations.specs.Taking.{heard_by}
 use Rattle.outcomes.specs.Asking.{is_told, marked}
 use Rattle.outcomes.specs.Outcomes.{AreAll, AreDifferent, AreOutcomes, AreVisited, CanSpend, LeadsTo, StopsAtFirst, ends_in, ends_of_all, outputs_in}
-use Rattle.outcomes.specs.States.{AreAllFree, AreFreeOutcomes, AreStates, LeadsFreelyTo}
+use Rattle.outcomes.specs.States.{AreAllFree, AreFreeOutcomes, AreStates, ComesRound, EndsWithin, GoesOnForEver, LeadsFreelyTo}
+use Rattle.outcomes.specs.declared.Ending.{Ending}
+use Rattle.outcomes.specs.declared.Ending.TheVariants.{ForEver, Unknown, Within}
 use Rattle.outcomes.specs.declared.Extent.{Extent}
 use Rattle.outcomes.specs.declared.Extent.TheVariants.{Cut, First, Whole}
 use Rattle.outcomes.specs.declared.asked.Asked.{Asked}
@@ -21,6 +24,7 @@ use Rattle.outcomes.specs.declared.asked.Told.{Told}
 use Rattle.outcomes.specs.declared.asked.Told.TheVariants.{Each, Lacking, Waiting as TheWaiting}
 use Rattle.outcomes.specs.declared.Outcome.{Outcome}
 use Rattle.outcomes.specs.declared.Outcomes.{Outcomes}
+use Rattle.outcomes.specs.declared.Round.{Round}
 use Rattle.pcml_answers.specs.Standings.{process_lines, standings}
 use Rattle.pcml_answers.specs.declared.finding.Finding.{Finding}
 use Rattle.pcml_answers.specs.declared.finding.Finding.TheVariants.{Clear, Open, Stuck}
@@ -57,16 +61,30 @@ extent_text None Whole bounded = codes "all"
 extent_text (Some rows) Whole false = codes "all"
 extent_text (Some rows) Whole true = codes "all within " ++ decimal rows ++ codes " syncs"
 
--- how many outcomes are told, how many configurations or states were seen, and whether that is all
+-- how runs end is told of runs of any length alone, where all was seen
+abbrev pub ending_of : Option ℕ → Extent → Ending → Option Ending
+ending_of None Whole ending = Some ending
+ending_of rows extent ending = None
+
+abbrev pub told_ending : Option ℕ → Outcomes → Option Ending
+told_ending rows found = ending_of rows found.extent found.ending
+
+abbrev pub ending_text : Option Ending → List ℕ
+ending_text (Some (Within most)) = codes ", every run ends within " ++ decimal most ++ codes " commits"
+ending_text (Some (ForEver round)) = codes ", some runs go on for ever"
+ending_text ending = []
+
+-- how many outcomes are told, how many configurations or states were seen, whether that is all, and how runs end
 abbrev pub last_line : Option ℕ → ℕ → Outcomes → List ℕ
 last_line rows told found =
-    codes "outcomes " ++ decimal told ++ codes " " ++ seen_word rows ++ codes " " ++ decimal found.visited ++ codes " " ++ extent_text rows found.extent found.is_bounded ++ 10 ∷ []
+    codes "outcomes " ++ decimal told ++ codes " " ++ seen_word rows ++ codes " " ++ decimal found.visited ++ codes " " ++ extent_text rows found.extent found.is_bounded
+    ++ ending_text (told_ending rows found) ++ 10 ∷ []
 
 abbrev pub outcomes_text : Naming → Option ℕ → Asked → Outcomes → List ℕ
 outcomes_text names rows asked found =
     flat_map (outcome_text names asked.named.items) (shown asked found.outcomes.items) ++ last_line rows (length (shown asked found.outcomes.items)) found
 
--- THE JOURNAL OF ONE
+-- THE JOURNAL THAT IS KEPT
 
 -- a number from 1 on, where one is named
 abbrev pub IsNumber : Option ℕ → Type 0
@@ -77,11 +95,37 @@ abbrev pub asked_for : Option ℕ → Asked → List Outcome → Option Outcome
 asked_for (Some number) asked outcomes = slice_get outcomes (number - 1)
 asked_for None asked outcomes = find (is_shown asked) outcomes
 
--- the text of its journal, where there is such an outcome, and else none
-abbrev pub SpellsAsked : Script → Option Outcome → Option (List ℕ) → Type 0
-SpellsAsked s (Some o) (Some text) = Spells s text o.journal.items
-SpellsAsked s None None = ⊤
-SpellsAsked s asked text = ⊥
+-- a run that comes round, where runs go on for ever
+abbrev pub round_in : Option Ending → Option Round
+round_in (Some (ForEver round)) = round
+round_in ending = None
+
+-- where no outcome is asked for by its number, and there is none
+abbrev pub round_for : Option ℕ → Option Outcome → Option Round → Option Round
+round_for None None round = round
+round_for of outcome round = None
+
+abbrev pub kept_round : Option ℕ → Option ℕ → Asked → Outcomes → Option Round
+kept_round rows of asked found = round_for of (asked_for of asked found.outcomes.items) (round_in (told_ending rows found))
+
+abbrev pub run_of : Option Outcome → Option Round → Option (List Commit)
+run_of (Some o) round = Some o.journal.items
+run_of None (Some r) = Some r.journal.items
+run_of None None = None
+
+-- the run that leads to the outcome that is asked for; where no number is named and no outcome is told, one that comes round
+abbrev pub kept_run : Option ℕ → Option ℕ → Asked → Outcomes → Option (List Commit)
+kept_run rows of asked found = run_of (asked_for of asked found.outcomes.items) (kept_round rows of asked found)
+
+-- the text of the run, where there is one, and else none
+abbrev pub SpellsKept : Script → Option (List Commit) → Option (List ℕ) → Type 0
+SpellsKept s (Some run) (Some text) = Spells s text run
+SpellsKept s None None = ⊤
+SpellsKept s run text = ⊥
+
+-- the number of the commit with which the circle begins, from 1, as the lines of the journal count
+abbrev pub circle_of : Option Round → Option ℕ
+circle_of round = option_map (λ r. r.from + 1) round
 
 -- the bytes of a text, where there is one
 abbrev pub bytes_of : Option (Vec ℕ) → Option (List ℕ)
@@ -106,7 +150,7 @@ pub record AreFound (s : Script) (rows limit : ℕ) (asked : Asked) (found : Out
 
 -- The same in runs of any length: the outcomes are those of runs that can go no further, however many syncs there may be, and no
 -- process is said to be spent. So many states were seen: configurations that differ by what is left to do, or by what was printed by a
--- process that is named.
+-- process that is named. Where all was seen it is known whether runs end.
 pub record AreFoundFreely (s : Script) (limit : ℕ) (asked : Asked) (found : Outcomes) : Type 0 where
   pub outcomes : AreFreeOutcomes s.processes found.outcomes.items
   pub different : AreDifferent asked.named.items found.outcomes.items
@@ -116,6 +160,10 @@ pub record AreFoundFreely (s : Script) (limit : ℕ) (asked : Asked) (found : Ou
   pub cut : found.extent ≡ Cut → found.visited ≡ limit
   pub first : StopsAtFirst asked found.extent (ends_of_all found.outcomes.items)
   pub unspent : found.is_bounded ≡ false
+  pub ends : (most : ℕ) → found.ending ≡ Within most → EndsWithin s.processes most
+  pub goes_on : (round : Option Round) → found.ending ≡ ForEver round → GoesOnForEver s.processes
+  pub round : (round : Round) → found.ending ≡ ForEver (Some round) → ComesRound (heard_by asked.named.items) s.processes round
+  pub known : found.extent ≡ Whole → found.ending ≢ Unknown
 
 -- of so many rows each, or where no number is named in runs of any length
 abbrev pub AreFoundIn : Script → Option ℕ → ℕ → Asked → Outcomes → Type 0
@@ -157,12 +205,19 @@ finding asked found =
     if list_any (has_stuck asked.told) found.outcomes.items then Stuck
     else (if is_clear asked found then Clear else Open)
 
--- the text of what was found, and of the journal of the outcome that is asked for
+-- whether some runs go on for ever
+abbrev pub is_endless : Option Ending → Bool
+is_endless (Some (ForEver round)) = true
+is_endless ending = false
+
+-- the text of what was found, and of the journal that is kept
 pub record IsListed (s : Script) (rows : Option ℕ) (asked : Asked) (of : Option ℕ) (found : Outcomes) (t : OutcomesText) : Type 0 where
   pub text : t.text.items ≡ outcomes_text (named s) rows asked found
-  pub journal : SpellsAsked s (asked_for of asked found.outcomes.items) (bytes_of t.journal)
+  pub journal : SpellsKept s (kept_run rows of asked found) (bytes_of t.journal)
+  pub goes_on : t.goes_on ≡ circle_of (kept_round rows of asked found)
   pub finding_is : t.finding ≡ finding asked found
   pub cut : t.is_cut ≡ is_cut found.extent
+  pub endless : t.is_endless ≡ is_endless (told_ending rows found)
 
 -- the text of something that was found
 pub record TellsOutcomes (s : Script) (rows : Option ℕ) (limit : ℕ) (asked : Asked) (of : Option ℕ) (t : OutcomesText) : Type 0 where
@@ -183,6 +238,14 @@ AreOf s outcomes = (k : ℕ) (o : Outcome) → slice_get outcomes k ≡ Some o �
 -- the journal of each has lines in the script's names
 abbrev pub HaveLines : Script → List Outcome → Type 0
 HaveLines s outcomes = (k : ℕ) (o : Outcome) → slice_get outcomes k ≡ Some o → AllByRecursion (HasLine (names_of s)) o.journal.items
+
+-- the journal of a run that comes round has such lines, and the circle begins before its end
+pub record IsRoundOf (s : Script) (r : Round) : Type 0 where
+  pub lines : AllByRecursion (HasLine (names_of s)) r.journal.items
+  pub on : r.from < length r.journal.items
+
+abbrev pub HasRoundOf : Script → Option Ending → Type 0
+HasRoundOf s ending = (r : Round) → round_in ending ≡ Some r → IsRoundOf s r
 
 -- LAWS
 
@@ -264,3 +327,10 @@ abbrev pub FreeStuckIsLeft : Type 0
 FreeStuckIsLeft =
     (s : Script) (limit : ℕ) (asked : Asked) (found : Outcomes) (needed : Vec Bool) → AreFoundFreely s limit asked found → asked.told ≡ Lacking needed → finding asked found ≡ Stuck
     → FreeLeavesStuck s needed.items
+
+-- where all was seen, the last line says whether runs end, and within how many commits, and so it is
+abbrev pub AllSaysWhetherRunsEnd : Type 0
+AllSaysWhetherRunsEnd =
+    (s : Script) (limit : ℕ) (asked : Asked) (found : Outcomes) → AreFoundFreely s limit asked found → found.extent ≡ Whole →
+    ((most : ℕ) × (ending_text (told_ending None found) ≡ codes ", every run ends within " ++ decimal most ++ codes " commits") × EndsWithin s.processes most)
+    ⊎ ((ending_text (told_ending None found) ≡ codes ", some runs go on for ever") × GoesOnForEver s.processes)

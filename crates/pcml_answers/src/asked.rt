@@ -1,14 +1,17 @@
-//! The outcome whose journal is asked for.
+//! The run whose journal is kept.
 
-ghost use Rattle.std.specs.Prelude.{◌≡◌, IfOk};
+ghost use Rattle.std.specs.Prelude.{◌≡◌, ◌<◌, IfOk, IfSome, length};
 ghost use Rattle.std.specs.Option.{option_copied};
-ghost use Rattle.std.specs.List.{find};
+ghost use Rattle.std.specs.List.{AllByRecursion, find};
 ghost use Rattle.script.specs.Scripts.{script_of};
-ghost use Rattle.pcml_answers.specs.Told.{HaveLines, IsNumber, SpellsAsked, asked_for, bytes_of, is_shown};
+ghost use Rattle.journal_text.specs.Journals.{HasLine};
+ghost use Rattle.journal_text.specs.Names.{names_of};
+ghost use Rattle.pcml_answers.specs.Told.{IsNumber, SpellsKept, asked_for, bytes_of, circle_of, is_shown, round_for, run_of};
 
 use crate::shown::is_shown;
 use journal_text::write_journal;
-use outcomes::{Asked, Outcome};
+use outcomes::{Asked, Outcome, Round};
+use protocol_values::Commit;
 use script::Script;
 use std::alloc::{AllocError, Global};
 
@@ -25,7 +28,11 @@ fn first_shown<'a>(outcomes: &'a [Outcome], asked: &Asked) -> Option<&'a Outcome
 }
 
 /// The outcome of this number, from 1, or where none is named the first that is told.
-fn asked_for<'a>(outcomes: &'a [Outcome], asked: &Asked, of: Option<u32>) -> Option<&'a Outcome>
+pub(crate) fn asked_for<'a>(
+    outcomes: &'a [Outcome],
+    asked: &Asked,
+    of: Option<u32>,
+) -> Option<&'a Outcome>
     requires { IsNumber of }
     ensures { option_copied result ≡ asked_for of asked.now outcomes.now }
 {
@@ -35,21 +42,57 @@ fn asked_for<'a>(outcomes: &'a [Outcome], asked: &Asked, of: Option<u32>) -> Opt
     }
 }
 
-/// The journal that leads to the outcome that is asked for, as text; none where there is no such outcome.
-pub(crate) fn journal_asked(
+/// The run that comes round, where no outcome is asked for by its number, and there is none.
+pub(crate) fn round_for<'a>(
+    of: Option<u32>,
+    outcome: Option<&Outcome>,
+    round: Option<&'a Round>,
+) -> Option<&'a Round>
+    ensures { option_copied result ≡ round_for of (option_copied outcome.entry) (option_copied round.entry) }
+{
+    match (of, outcome) {
+        (None, None) => round,
+        _ => None,
+    }
+}
+
+/// The commits of the run that leads to the outcome, or where there is none, of the one that comes round.
+pub(crate) fn run_of<'a>(
+    outcome: Option<&'a Outcome>,
+    round: Option<&'a Round>,
+) -> Option<&'a [Commit]>
+    ensures { option_copied result ≡ run_of (option_copied outcome.entry) (option_copied round.entry) }
+{
+    match (outcome, round) {
+        (Some(outcome), _) => Some(outcome.journal.as_slice()),
+        (None, Some(round)) => Some(round.journal.as_slice()),
+        (None, None) => None,
+    }
+}
+
+/// The number of the commit with which the circle begins, from 1, as the lines of the journal count.
+pub(crate) fn circle_of(round: Option<&Round>) -> Option<usize>
+    requires { IfSome (option_copied round) (λ r. r.from < length r.journal.items) }
+    ensures { result ≡ circle_of (option_copied round.entry) }
+{
+    match round {
+        Some(round) => Some(round.from + 1),
+        None => None,
+    }
+}
+
+/// The run as text, where there is one.
+pub(crate) fn journal_of(
     alloc: Global,
     script: &Script,
-    outcomes: &[Outcome],
-    asked: &Asked,
-    of: Option<u32>,
+    run: Option<&[Commit]>,
 ) -> Result<Option<Vec<u8>>, AllocError>
-    requires lines { HaveLines (script_of script.now) outcomes.now }
-    requires number { IsNumber of }
-    ensures { IfOk result (λ text. SpellsAsked (script_of script.now) (asked_for of asked.now outcomes.now) (bytes_of text)) }
+    requires lines { IfSome (option_copied run) (AllByRecursion (HasLine (names_of (script_of script.now)))) }
+    ensures { IfOk result (λ text. SpellsKept (script_of script.now) (option_copied run.entry) (bytes_of text)) }
 {
-    match asked_for(outcomes, asked, of) {
-        Some(outcome) => {
-            let text = write_journal(alloc, script, outcome.journal.as_slice())?;
+    match run {
+        Some(run) => {
+            let text = write_journal(alloc, script, run)?;
             Ok(Some(text))
         }
         None => Ok(None),

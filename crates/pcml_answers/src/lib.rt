@@ -4,8 +4,8 @@
 //! - `stats_text`: how often each process and channel took part in a journal (`stats.rt`).
 //! - `find_reason`, `push_reason`: why a commit may not come next (`unlawful.rt`). Where a reason holds of a commit it may
 //!   not come next (`reason_law`).
-//! - `outcomes_text`: all that a script can come to, with the journal that leads to one outcome (`listing.rt`). What is
-//!   told is a function of what was found (`specs/Told.antt`).
+//! - `outcomes_text`: all that a script can come to, with the journal that leads to one outcome, or comes round
+//!   (`listing.rt`). What is told is a function of what was found (`specs/Told.antt`).
 //! - `next_text`: the commits that may come next where a run led (`coming.rt`).
 //! - `push_process`, `standing_lines`: lines of processes, behind a run and behind a journal too (`processes.rt`).
 #![tactic(auto)]
@@ -13,6 +13,7 @@
 mod asked;
 mod coming;
 mod counts;
+mod ending;
 mod finding;
 mod listing;
 mod need;

@@ -3,9 +3,10 @@
 ghost use Rattle.std.specs.Prelude.{◌≡◌, ◌≤◌, IfOk, IfSome, None, length};
 ghost use Rattle.protocol_values.specs.Commits.{most_rows};
 ghost use Rattle.script.specs.Scripts.{script_of};
-ghost use Rattle.pcml_answers.specs.Told.{AreFound, AreFoundFreely, AreFoundIn, AreOf, ClearAlwaysEnds, ClearNeverWaits, FreeClearAlwaysEnds, FreeClearNeverWaits, FreeNeverSpends, FreeStuckIsLeft, HaveLines, IsListed, IsNumber, StuckIsLeft, TellsOutcomes};
+ghost use Rattle.pcml_answers.specs.Told.{AllSaysWhetherRunsEnd, AreFound, AreFoundFreely, AreFoundIn, AreOf, ClearAlwaysEnds, ClearNeverWaits, FreeClearAlwaysEnds, FreeClearNeverWaits, FreeNeverSpends, FreeStuckIsLeft, HasRoundOf, HaveLines, IsListed, IsNumber, StuckIsLeft, TellsOutcomes, told_ending};
 
-use crate::asked::journal_asked;
+use crate::asked::{asked_for, circle_of, journal_of, round_for, run_of};
+use crate::ending::{is_endless, round_in, told_ending};
 use crate::finding::{Finding, is_cut, judge};
 use crate::shown::{count_shown, push_last_line, shown_lines};
 use outcomes::{Asked, Outcomes, Watch, find_outcomes, find_states};
@@ -17,12 +18,17 @@ use std::alloc::{AllocError, Global};
 pub struct OutcomesText {
     /// The lines of each outcome that is told, and the counts.
     pub text: Vec<u8>,
-    /// The journal that leads to the outcome that is asked for, as text; none where there is no such outcome.
+    /// The journal that leads to the outcome that is asked for, as text; where no number is named and no outcome is
+    /// told, that of a run that comes round; else none.
     pub journal: Option<Vec<u8>>,
+    /// Of a run that comes round, the number of the commit with which its circle begins, as lines count.
+    pub goes_on: Option<usize>,
     /// What was found of what was asked for.
     pub finding: Finding,
     /// Whether not all configurations were seen.
     pub is_cut: bool,
+    /// Whether some runs go on for ever, where that is known.
+    pub is_endless: bool,
 }
 
 /// What was found, as text.
@@ -36,6 +42,7 @@ fn found_text(
 ) -> Result<OutcomesText, AllocError>
     requires outcomes { AreOf (script_of script.now) found.now.outcomes.items }
     requires lines { HaveLines (script_of script.now) found.now.outcomes.items }
+    requires round { HasRoundOf (script_of script.now) (told_ending rows found.now) }
     requires marks { length asked.now.named.items ≡ length (script_of script.now).processes }
     requires number { IsNumber of }
     ensures { IfOk result (IsListed (script_of script.now) rows asked.now of found.now) }
@@ -44,12 +51,17 @@ fn found_text(
     let told = count_shown(outcomes, asked);
     let mut text = shown_lines(alloc, script, outcomes, asked)?;
     push_last_line(&mut text, rows, told, found)?;
-    let journal = journal_asked(alloc, script, outcomes, asked, of)?;
+    let outcome = asked_for(outcomes, asked, of);
+    let ending = told_ending(rows, found);
+    let round = round_for(of, outcome, round_in(ending));
+    let journal = journal_of(alloc, script, run_of(outcome, round))?;
     Ok(OutcomesText {
         text: text.into_bytes(),
         journal,
+        goes_on: circle_of(round),
         finding: judge(asked, found, told),
         is_cut: is_cut(found.extent),
+        is_endless: is_endless(ending),
     })
 }
 
@@ -85,6 +97,7 @@ fn found_freely<W: Watch>(
     ensures found { IfOk result (AreFoundFreely (script_of script.now) limit asked.now) }
     ensures lines { IfOk result (λ o. HaveLines (script_of script.now) o.outcomes.items) }
     ensures of { IfOk result (λ o. AreOf (script_of script.now) o.outcomes.items) }
+    ensures round { IfOk result (λ o. HasRoundOf (script_of script.now) (told_ending None o)) }
 {
     let found = find_states(alloc, script.processes(), limit, asked, watch)?;
     Ok(found)
@@ -105,6 +118,7 @@ fn found_in<W: Watch>(
     ensures found { IfOk result (AreFoundIn (script_of script.now) rows limit asked.now) }
     ensures lines { IfOk result (λ o. HaveLines (script_of script.now) o.outcomes.items) }
     ensures of { IfOk result (λ o. AreOf (script_of script.now) o.outcomes.items) }
+    ensures round { IfOk result (λ o. HasRoundOf (script_of script.now) (told_ending rows o)) }
 {
     match rows {
         Some(rows) => found_within(alloc, script, rows, limit, asked, watch),
@@ -114,8 +128,8 @@ fn found_in<W: Watch>(
 
 /// All that the script's processes can come to, of so many rows each, 1 to `MOST_ROWS`, or without a number in runs of
 /// any length, as far as at most `limit` configurations show it, with the journal that leads to the outcome of the
-/// number `of`, from 1, or else to the first that is told. What makes an outcome, and which are told, is `asked`, whose
-/// marks are one for each process.
+/// number `of`, from 1, or else to the first that is told. Where none is told and runs of any length go on for ever, it is
+/// one that comes round. What makes an outcome, and which are told, is `asked`, whose marks are one for each process.
 pub fn outcomes_text<W: Watch>(
     alloc: Global,
     script: &Script,
@@ -139,7 +153,7 @@ pub fn outcomes_text<W: Watch>(
 /// What a finding means. Where what waits was asked for and all is clear, no maximal run leaves a named process waiting,
 /// or any process spent. Where processes have to end and all is clear, they have ended behind every maximal run. Where
 /// one is said to be stuck, some maximal run leaves it so. Of what was found in runs of any length the same is so of all
-/// runs that can go no further, none of which leaves a process spent.
+/// runs that can go no further, none of which leaves a process spent; and the last line says whether all runs end.
 pub fn outcomes_laws()
     ensures waiting { ClearNeverWaits }
     ensures ends { ClearAlwaysEnds }
@@ -148,4 +162,5 @@ pub fn outcomes_laws()
     ensures waiting_freely { FreeClearNeverWaits }
     ensures ends_freely { FreeClearAlwaysEnds }
     ensures stuck_freely { FreeStuckIsLeft }
+    ensures endings { AllSaysWhetherRunsEnd }
 {}

@@ -12,6 +12,7 @@ ghost use Rattle.outcomes.specs.Outcomes.{ends_in, outputs_in};
 ghost use Rattle.pcml_answers.specs.Standings.{process_lines, standings};
 ghost use Rattle.pcml_answers.specs.Told.{AreOf, IsOf, extent_text, is_shown, last_line, outcome_line, outcome_text, seen_word, shown};
 
+use crate::ending::{push_ending, told_ending};
 use crate::processes::push_process;
 use outcomes::{Asked, Extent, Outcome, Outcomes};
 use script::Script;
@@ -127,7 +128,8 @@ fn push_extent(
     }
 }
 
-/// Appends how many outcomes are told, how many configurations or states were seen, and whether that is all.
+/// Appends how many outcomes are told, how many configurations or states were seen, whether that is all, and how runs
+/// end.
 pub(crate) fn push_last_line(
     out: &mut String,
     rows: Option<u32>,
@@ -140,5 +142,6 @@ pub(crate) fn push_last_line(
     let seen = seen_word(rows);
     write!(out, "outcomes {told} {seen} {visited} ")?;
     push_extent(out, rows, found.extent, found.is_bounded)?;
+    push_ending(out, told_ending(rows, found))?;
     out.push_str("\n")
 }

@@ -89,6 +89,11 @@ COMMANDS
               A run that goes on for ever comes to none. In which order
               outcomes are told is open.
 
+              Behind all the last line tells how runs end: every run ends
+              within and how many commits the longest makes, or some runs go
+              on for ever.  Where no outcome is told, --journal then keeps
+              such a run.
+
               With --need it is a test that some processes never get stuck:
               the status is 0 only where each run that comes to an end brings
               them to theirs.
@@ -197,8 +202,13 @@ OPTIONS
               standard error then says that no other command reads it.  For
               outcomes it is a journal that leads to the outcome of --of, or
               else to the first that is told; where there is no such outcome,
-              TO stays as it is. Where a process makes more than 256 syncs in
-              it, replay, why and others want --rows or --seasons.
+              TO stays as it is. But where no number is named, and some runs
+              go on for ever, it is then a run that leads into a circle and
+              goes round once: behind it each process has the same left to do
+              as where the circle begins. Standard error tells goes on at
+              commit and the number of the circle's first commit, from 1.
+              Where a process makes more than 256 syncs in it, replay, why
+              and others want --rows or --seasons.
 
        --of K The number of the outcome whose journal is written, from 1.
               Where there is none of that number, the status is 1.
@@ -248,9 +258,10 @@ OPTIONS
               then. Else it is 0, and each run that comes to an end brings
               them to theirs, with --rows each run within so many syncs a
               process. Of a run that goes on for ever, in which a process may
-              be overtaken without end, it says nothing.  Name the clients,
-              and not a server that waits for its next client for ever. It
-              does not go together with --waiting.
+              be overtaken without end, it says nothing: where there are
+              some, and the status is 0, standard error says so.  Name the
+              clients, and not a server that waits for its next client for
+              ever. It does not go together with --waiting.
 
        -h, --help
               Prints the help.

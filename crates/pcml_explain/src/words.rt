@@ -133,8 +133,8 @@ comes about: where several events may be taken, a run takes one of them. So a sc
 a run shows one.
 example: pcml outcomes FILE tells two, where FILE is
   process a { x <- sync choose [always (1), always (2)]; print x; }
-what to do: pcml outcomes FILE tells all of them, with --only NAMES by these processes alone, and with --need NAMES
-those alone in which one of these has not ended.
+what to do: pcml outcomes FILE tells all of them and whether every run ends, with --only NAMES by these processes
+alone, and with --need NAMES those alone in which one of these has not ended.
 ";
 
 pub(crate) const CONFIGURATION: &str = "\

@@ -48,7 +48,7 @@ use Rattle.journal_text.specs.Names.{named}
 use Rattle.outcomes.specs.declared.Outcomes.{Outcomes as Found}
 use Rattle.outcomes.specs.declared.asked.Asked.{Asked}
 use Rattle.outcomes.specs.Asking.{has_unended}
-use Rattle.pcml_answers.specs.Told.{AreFoundIn, NamesNeeded, SpellsAsked, asked_for, finding, outcomes_text}
+use Rattle.pcml_answers.specs.Told.{AreFoundIn, NamesNeeded, SpellsKept, finding, kept_run, outcomes_text}
 use Rattle.pcml_tool.specs.Searching.{FailsAsked, IsAskedBy, verdict_of}
 use Rattle.script_mistakes.specs.Short.{TellsWhyShort}
 use Rattle.script_mistakes.specs.Telling.{TellsWhyNot}
@@ -134,7 +134,7 @@ abbrev pub KeepsAsked : Files → Files → Option (List ℕ) → Option (List �
 KeepsAsked Holds Keeps (Some name) (Some lines) = Keeps name lines
 KeepsAsked Holds Keeps name lines = (file bytes : List ℕ) → Keeps file bytes → Holds file bytes
 
--- the text of outcomes that were found of a script, and the journal of the one that is asked for, in a file where one is named
+-- the text of outcomes that were found of a script, and the journal that is kept of it, in a file where one is named
 pub record AnswersOutcomes (Holds Keeps : Files) (search : Search) (verdict : Verdict) (text : List ℕ) : Type 0 where
   pub source : List ℕ
   pub holds : Holds search.script.now source
@@ -146,7 +146,7 @@ pub record AnswersOutcomes (Holds Keeps : Files) (search : Search) (verdict : Ve
   pub found : Found
   pub are : AreFoundIn s search.rows search.limit asked found
   pub lines : Option (List ℕ)
-  pub is_asked : SpellsAsked s (asked_for search.of asked found.outcomes.items) lines
+  pub is_kept : SpellsKept s (kept_run search.rows search.of asked found) lines
   pub kept : KeepsAsked Holds Keeps (option_copied search.journal) lines
   pub so : verdict ≡ verdict_of (finding asked found) (is_some search.of) (is_some lines)
   pub is : text ≡ outcomes_text (named s) search.rows asked found

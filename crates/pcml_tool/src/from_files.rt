@@ -12,7 +12,7 @@ ghost use Rattle.pcml_tool.specs.Play.{IsPlayed};
 ghost use Rattle.pcml_tool.specs.Command.{AnswersJournal, AnswersWhyScript, AnswersWhyShort, AreTreesOf, IsJudged, FailsJournal, FailsOf, FailsParse, FailsPlay, FailsRead, FailsWhyScript, IsToldShort, IsToldWhyNot, OfSchedule, TellsOf};
 ghost use Rattle.pcml_files.specs.Files.{Fits};
 
-use crate::answer::{Answer, Verdict};
+use crate::answer::{Advice, Answer, Verdict};
 use crate::fault::Fault;
 use crate::{
     Replayed, chart_journal, check_text, next_journal, play_text, replay_text, stats_journal,
@@ -104,7 +104,7 @@ fn judged(replayed: Replayed) -> Answer
     Answer {
         verdict,
         text,
-        advice: "",
+        advice: Advice::Nothing,
     }
 }
 
@@ -160,12 +160,12 @@ fn told_why_not(alloc: Global, text: Option<Vec<u8>>) -> Result<Answer, Fault>
         Some(text) => Ok(Answer {
             verdict: Verdict::Denied,
             text,
-            advice: "",
+            advice: Advice::Nothing,
         }),
         None => Ok(Answer {
             verdict: Verdict::Done,
             text: Vec::from_slice(alloc, b"this is a script\n")?,
-            advice: "",
+            advice: Advice::Nothing,
         }),
     }
 }
@@ -208,6 +208,6 @@ fn told_short(alloc: Global, text: Option<Vec<u8>>) -> Answer
     Answer {
         verdict,
         text,
-        advice: "",
+        advice: Advice::Nothing,
     }
 }

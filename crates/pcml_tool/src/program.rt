@@ -17,7 +17,7 @@ ghost use Rattle.pcml_tool.specs.Command.{Answers, AnswersOutcomes, AnswersRun, 
 ghost use Rattle.pcml_tool.specs.Faults.{status_of};
 ghost use Rattle.pcml_tool.specs.Run.{TellsAsked};
 
-use crate::answer::{Answer, Verdict};
+use crate::answer::{Advice, Answer, Verdict};
 use crate::fault::Fault;
 use crate::from_files::{
     answer_journal, check_file, play_file, read_script, read_source, why_file, why_short_file,
@@ -174,7 +174,7 @@ fn answer_run<R: Threads + Wait + Sync, S: Source>(
     Ok(Answer {
         verdict,
         text,
-        advice: if is_long { LONG } else { "" },
+        advice: Advice::Text(if is_long { LONG } else { "" }),
     })
 }
 
@@ -229,27 +229,27 @@ fn answer<R: Threads + Wait + Sync, S: Source, W: Watch>(
         Request::Check(name) => Ok(Answer {
             verdict: Verdict::Done,
             text: check_file(alloc, source, name)?,
-            advice: "",
+            advice: Advice::Nothing,
         }),
         Request::Explain(topic) => Ok(Answer {
             verdict: Verdict::Done,
             text: explain_text(alloc, topic)?,
-            advice: "",
+            advice: Advice::Nothing,
         }),
         Request::Version => Ok(Answer {
             verdict: Verdict::Done,
             text: version_text(alloc)?,
-            advice: "",
+            advice: Advice::Nothing,
         }),
         Request::Meet(value) => Ok(Answer {
             verdict: Verdict::Done,
             text: meet_text(rt, alloc, value)?,
-            advice: "",
+            advice: Advice::Nothing,
         }),
         Request::Play(name) => Ok(Answer {
             verdict: Verdict::Done,
             text: play_file(alloc, source, name)?,
-            advice: "",
+            advice: Advice::Nothing,
         }),
     }
 }
@@ -278,7 +278,7 @@ fn respond<R: Threads + Wait + Sync, S: Source, O: Write, E: Write, W: Watch>(
         advice,
     } = answer(rt, alloc, asked, source, watch)?;
     emit(out, text.as_slice())?;
-    let _ = write!(err, "{advice}");
+    advice.tell(err);
     Ok(verdict)
 }
 

@@ -7,12 +7,12 @@ ghost use Rattle.pcml_answers.specs.Told.{NamesNeeded, bytes_of};
 ghost use Rattle.pcml_tool.specs.Command.{IsOfKeeping, KeepsAsked};
 ghost use Rattle.pcml_tool.specs.Searching.{FailsAsked, IsAskedBy, verdict_of};
 
-use crate::answer::{Answer, Verdict};
+use crate::answer::{Advice, Answer, Verdict};
 use crate::fault::Fault;
 use outcomes::Asked;
 use pcml_answers::{Finding, OutcomesText};
 use pcml_files::Source;
-use pcml_request::Search;
+use pcml_request::{Search, Wanted};
 use script::Script;
 use std::alloc::Global;
 
@@ -23,6 +23,10 @@ const CUT: &str =
 /// The same of runs of any length.
 const CUT_STATES: &str =
     "cut: not all states were seen. A larger --limit (up to 4194304) sees more; --only or fewer messages make fewer. --rows looks at runs of so many syncs a process alone.\n";
+
+/// What is told behind an answer by which processes always come to their end, where some runs have none.
+const NOT_JUDGED: &str =
+    "not judged: some runs go on for ever, and --need speaks of runs that end.\n";
 
 /// What a search asks for. Of the names of the processes that have to end, and then of those that are named alone, the
 /// first that no process has is a fault.
@@ -47,17 +51,34 @@ fn verdict_of(finding: Finding, is_asked: bool, is_there: bool) -> Verdict
     }
 }
 
-/// What is told behind an answer for which not all was seen, or nothing.
-fn advice_of(is_cut: bool, rows: Option<u16>) -> &'static str {
+/// Whether it is told that processes always come to their end, and some runs come to none.
+fn is_unjudged(is_endless: bool, search: &Search<'_>, verdict: Verdict) -> bool {
+    match (search.wanted, verdict) {
+        (Wanted::Lacking(_), Verdict::Done) => is_endless,
+        _ => false,
+    }
+}
+
+/// What is told behind an answer: that not all was seen, or what is not judged; or nothing.
+fn text_behind(is_cut: bool, is_unjudged: bool, rows: Option<u16>) -> &'static str {
     match rows {
         Some(_) if is_cut => CUT,
         None if is_cut => CUT_STATES,
+        None if is_unjudged => NOT_JUDGED,
         Some(_) | None => "",
     }
 }
 
-/// Keeps the journal of the outcome that is asked for in a file, where one is named and there is such an outcome, and
-/// gives what is answered.
+/// The same behind the number of the commit with which a circle begins, where the journal that is kept comes round.
+fn advice_of(goes_on: Option<usize>, search: &Search<'_>, text: &'static str) -> Advice {
+    match (goes_on, search.journal) {
+        (Some(number), Some(_)) => Advice::Circle(number, text),
+        _ => Advice::Text(text),
+    }
+}
+
+/// Keeps the journal that is asked for in a file, where one is named and there is such a journal, and gives what is
+/// answered.
 pub(crate) fn keep_outcome<S: Source>(
     source: &mut S,
     listed: OutcomesText,
@@ -71,16 +92,21 @@ pub(crate) fn keep_outcome<S: Source>(
     let OutcomesText {
         text,
         journal: lines,
+        goes_on,
         finding,
         is_cut,
+        is_endless,
     } = listed;
     let is_there = lines.is_some();
     if let (Some(lines), Some(name)) = (lines, search.journal) {
         source.store(name, &lines)?;
     }
+    let verdict = verdict_of(finding, search.of.is_some(), is_there);
+    let is_unjudged = is_unjudged(is_endless, search, verdict);
+    let behind = text_behind(is_cut, is_unjudged, search.rows);
     Ok(Answer {
-        verdict: verdict_of(finding, search.of.is_some(), is_there),
+        verdict,
         text,
-        advice: advice_of(is_cut, search.rows),
+        advice: advice_of(goes_on, search, behind),
     })
 }

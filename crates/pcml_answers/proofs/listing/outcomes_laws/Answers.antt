@@ -1,4 +1,5 @@
 use Rattle.pcml_answers.proofs.Clearing.{clear_always_ends, clear_never_waits, free_clear_always_ends, free_clear_never_waits, free_never_spends, free_stuck_is_left, stuck_is_left}
+use Rattle.pcml_answers.proofs.Endings.{all_says_whether_runs_end}
 use Rattle.pcml_answers.proofs.listing.outcomes_laws.Goals as goal
 
 pub returns-clause-waiting : goal.returns-clause-waiting
@@ -21,3 +22,6 @@ returns-clause-ends_freely c = free_clear_always_ends
 
 pub returns-clause-stuck_freely : goal.returns-clause-stuck_freely
 returns-clause-stuck_freely c = free_stuck_is_left
+
+pub returns-clause-endings : goal.returns-clause-endings
+returns-clause-endings c = all_says_whether_runs_end
