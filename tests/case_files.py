@@ -114,7 +114,8 @@ class Player:
             out, _, err = body.removesuffix("\n").rpartition("\n")
             return (answer.status, answer.out, answer.err) == (int(kind[6:]), f"{out}\n".encode(), f"{err}\n".encode())
         if kind == "tells":
-            return (answer.status, answer.err) == (0, b"") and listing(answer.out.decode()) == listing(body)
+            is_last = last_line(answer.out).startswith("outcomes ")
+            return answer.status == 0 and is_last and listing((answer.out + answer.err).decode()) == listing(body)
         streams = (b"", body.encode()) if kind == "fails" else (body.encode(), b"")
         return (answer.status, answer.out, answer.err) == (STATUSES[kind], *streams)
 

@@ -95,7 +95,8 @@ pcml_check_answer pcml_check_journal(const char *script, size_t script_len, cons
  * with 0, as without --rows, any number. At most `limit` configurations, or with 0 rows states, are looked at, 1 to
  * 4194304: each takes memory, and 1048576 is the program's. `need` and `only` are names of processes with commas between, or
  * all, as for --need and --only; a length of 0 gives none. An outcome is told where a process of `need` has not ended,
- * and without `need` each; outcomes that differ in no process of `only` or `need` are one.
+ * and without `need` each; outcomes that differ in no process of `only` or `need` are one. With 0 rows the last line says
+ * whether every run ends: a run that goes on for ever comes to no outcome, and is not judged.
  *   PCML_DONE            with `need`: all was seen, and each process of it ends in every outcome; without: always
  *   PCML_STUCK           some process of `need` waits for ever, has faulted or was never started in some outcome
  *   PCML_OPEN            neither is known: the search was cut, or a process had no sync left (never with 0 rows)

@@ -97,11 +97,13 @@ static void found(void) {
     TOLD(outcomes(LONG_RUN, 8, 99, "all", ""), PCML_OPEN, 0, 0,
          "outcome 1\na spent\nb spent\noutcomes 1 configurations 9 all within 8 syncs\n");
     TOLD(outcomes(LONG_RUN, 9, 99, "all", ""), PCML_DONE, 0, 0, "outcomes 0 configurations 10 all\n");
-    TOLD(outcomes(PAIR, 0, 9, "", ""), PCML_DONE, 0, 0, "outcome 1\na ended\nb ended 42\noutcomes 1 states 2 all\n");
+    TOLD(outcomes(PAIR, 0, 9, "", ""), PCML_DONE, 0, 0, "outcome 1\na ended\nb ended 42\noutcomes 1 states 2 all, every run ends within 1 commits\n");
     TOLD(outcomes(CHOICE, 0, 9, "b", ""), PCML_STUCK, 0, 0,
-         "outcome 1\na ended\nb waiting\nd ended 1\noutcomes 1 states 3 all\n");
-    TOLD(outcomes(LONG_RUN, 0, 99, "all", ""), PCML_DONE, 0, 0, "outcomes 0 states 10 all\n");
+         "outcome 1\na ended\nb waiting\nd ended 1\noutcomes 1 states 3 all, every run ends within 1 commits\n");
+    TOLD(outcomes(LONG_RUN, 0, 99, "all", ""), PCML_DONE, 0, 0, "outcomes 0 states 10 all, every run ends within 9 commits\n");
     TOLD(outcomes(LONG_RUN, 0, 9, "all", ""), PCML_OPEN, 0, 0, "outcomes 0 states 9 cut\n");
+    TOLD(outcomes("process a { sync always (); forever { sync always (); } }", 0, 9, "a", ""), PCML_DONE, 0, 0,
+         "outcomes 0 states 2 all, some runs go on for ever\n");
     TOLD(outcomes(PAIR, 1025, 9, "", ""), PCML_BAD_ROWS, 0, 0, "");
     TOLD(outcomes(PAIR, 1024, 9, "all", ""), PCML_DONE, 0, 0, "outcomes 0 configurations 2 all\n");
     TOLD(outcomes(PAIR, 256, 0, "", ""), PCML_BAD_LIMIT, 0, 0, "");

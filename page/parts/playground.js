@@ -283,7 +283,11 @@ function kind_of_outcomes(count, words) {
 function told_of_outcomes(count, extent, words) {
   const kind = kind_of_outcomes(count, words);
   const is_met = words.includes("--need") && count === 0;
-  if (extent === "all") return is_met ? `${kind} in each run that comes to an end.` : `${kind}, and that is all.`;
+  const ending = /^all(?:, (.+))?$/.exec(extent);
+  if (ending) {
+    const told = is_met ? `${kind} in each run that comes to an end.` : `${kind}, and that is all.`;
+    return ending[1] ? `${told} ${ending[1][0].toUpperCase()}${ending[1].slice(1)}.` : told;
+  }
   const within = /^all within ([0-9]+) syncs/.exec(extent);
   if (within) {
     const syncs = `within ${counted(Number(within[1]), "sync")} a process.`;

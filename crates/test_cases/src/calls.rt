@@ -82,15 +82,16 @@ fn read_listing(alloc: Global, text: &str) -> Result<Listing<'_>, AllocError> {
 }
 
 impl Outcome {
-    /// Whether it tells the outcomes of the text, in whatever order, and whether that is all as the text does.
+    /// Whether it tells the outcomes of the text, in whatever order, and whether that is all as the text does. What the
+    /// text has behind its last line of these is on the error stream.
     pub(crate) fn tells(&self, alloc: Global, text: &str) -> Result<bool, AllocError> {
-        let Ok(out) = str::from_utf8(self.out.as_slice()) else {
-            return Ok(false);
-        };
+        let out = str::from_utf8(self.out.as_slice()).unwrap_or("(no text)");
+        let err = str::from_utf8(self.err.as_slice()).unwrap_or("(no text)");
+        let both = format!(in alloc; "{out}{err}")?;
         Ok(
             self.status == 0
-                && self.err.is_empty()
-                && read_listing(alloc, out)? == read_listing(alloc, text)?,
+                && last_line(self.out.as_slice()).starts_with("outcomes ")
+                && read_listing(alloc, both.as_str())? == read_listing(alloc, text)?,
         )
     }
 

@@ -120,7 +120,8 @@ impl Default for Search<'_> {
 /// What was found of what was asked for.
 #[derive(Clone, Copy, Debug, PartialEq, Eq)]
 pub enum Finding {
-    /// Each process that has to end does, in every outcome; so too where none has to.
+    /// Each process that has to end does, in every outcome; so too where none has to. A run that goes on for ever comes to
+    /// no outcome: with 0 rows the last line of the text says whether some do.
     Clear,
     /// Some process that has to end is stuck in some outcome.
     Stuck,

@@ -54,7 +54,7 @@ fn searches() {
     let asked = Search::default();
     assert_eq!(
         outcomes(PAIR, &asked).unwrap().text,
-        "outcome 1\na ended\nb ended 42\noutcomes 1 states 2 all\n"
+        "outcome 1\na ended\nb ended 42\noutcomes 1 states 2 all, every run ends within 1 commits\n"
     );
     assert_eq!(
         outcomes(PAIR, &Search { rows: 9, ..asked }).unwrap().text,
