@@ -10,7 +10,9 @@ use Rattle.protocol_values.specs.contracts.Offer as Offer
 use Rattle.thread.specs.contracts.memory.Memory as Memory
 use Rattle.thread.specs.contracts.stack.Frame as Frame
 use Rattle.thread.specs.contracts.stack.Stack as Stack
-use Rattle.thread.specs.contracts.machine.Position as Position
+use Rattle.thread.specs.contracts.branch.Position as Position
+use Rattle.thread.specs.contracts.branch.Branch as Branch
+use Rattle.thread.specs.contracts.branch.Branch.TheInside as BranchInside
 use Rattle.thread.specs.contracts.machine.Machine as Machine
 use Rattle.thread.specs.contracts.machine.Machine.TheInside as Inside
 use Rattle.script_tree.proofs.Crossing.{event_row_send, event_row_sync, block_row_send, block_row_sync}
@@ -49,10 +51,16 @@ place_send = search (sendable, crosses) depth 30
 memory_send : IsSend Memory.the_row
 memory_send = search (sendable, crosses) depth 30
 
-inside_send : IsSend Inside.the_row
-inside_send =
+branch_inside_send : IsSend BranchInside.the_row
+branch_inside_send =
     let a = block_row_send in let b = block_row_sync in let c = code_send in let d = code_sync in let e = message_send in
-    declared_send Inside.the_type (search (sendable, crosses) depth 20, (search (sendable, crosses) depth 20, (search sendable depth 20, (search sendable depth 20, (memory_send, (stack_send, (search (sendable, crosses) depth 20, (place_send, tt))))))))
+    declared_send BranchInside.the_type (search (sendable, crosses) depth 20, (search (sendable, crosses) depth 20, (search sendable depth 20, (search sendable depth 20, (memory_send, (stack_send, (search (sendable, crosses) depth 20, (search (sendable, crosses) depth 20, (place_send, tt)))))))))
+
+branch_send : IsSend Branch.the_row
+branch_send = view_send _ _ _ _ _ branch_inside_send
+
+inside_send : IsSend Inside.the_row
+inside_send = declared_send Inside.the_type (branch_send, tt)
 
 pub machine_send : IsSend Machine.the_row
 machine_send = view_send _ _ _ _ _ inside_send

@@ -22,5 +22,6 @@ pub mod Spawning
 pub mod Walks
 pub mod Printing
 pub mod Alike
+pub mod Taken
 pub mod Same
 pub mod Rising

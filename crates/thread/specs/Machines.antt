@@ -20,6 +20,13 @@ pub data Phase : Type 0 where
   Stuck : (fault : Fault) → Phase
   Broken : Phase
 
+-- what it can tell again
+pub record Keeping : Type 0 where
+  -- whether that is so of its results
+  pub results : Bool
+  -- what it printed first and does not keep, since it was taken
+  pub taken : List Atom
+
 pub record Thread : Type 0 where
   pub body : Block
   -- what runs
@@ -27,8 +34,7 @@ pub record Thread : Type 0 where
   pub variables : ℕ
   pub thread : ℕ
   pub results : List Chosen
-  -- whether it can tell them again
-  pub keeps : Bool
+  pub keeps : Keeping
   pub phase : Phase
   pub output : List Atom
   pub spawned : List ℕ

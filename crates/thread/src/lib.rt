@@ -10,6 +10,7 @@ ghost use Rattle.thread.specs.Printing.{DoesBehind};
 ghost use Rattle.thread.specs.Ranges.{OffersAreIn, ResultsAreIn};
 ghost use Rattle.thread.specs.contracts.machine.Machine as machine;
 
+mod branch;
 mod commit;
 mod hashing;
 pub mod log;
@@ -21,6 +22,7 @@ mod stack;
 mod statement;
 mod value;
 
+pub use branch::Branch;
 pub use machine::{Machine, Turn};
 
 /// Whatever a machine offers names only nacks and threads that the words have room for, if its results

@@ -1,10 +1,11 @@
 //! What a script can come to, as values.
 
 ghost use Rattle.std.specs.Prelude.{◌≤◌};
+ghost use Rattle.protocol_values.specs.Commits.{most_rows};
 
 use super::check_same;
 use journal_replay::{End, replay};
-use outcomes::{Asked, Extent, Outcomes, Told, Unwatched, find_outcomes};
+use outcomes::{AllLeft, Asked, Extent, Left, Outcomes, Told, Unwatched, find_left, find_outcomes};
 use protocol_values::{Atom, Commit, Message, Row};
 use script::parse;
 use std::alloc::Global;
@@ -77,6 +78,54 @@ fn a_search_is_cut_at_its_limit(rt: HostRuntime) -> Result<(), Fail> {
     let found = found(rt.alloc(), 2)?;
     check_same(&rt, found.extent, Extent::Cut);
     check_same(&rt, found.visited, 2);
+    Ok(())
+}
+
+/// A clock ticks for ever; one sends to another.
+const BESIDE_A_CLOCK: &str =
+    "channel c; process clock { forever { sync always (); } } process a { sync send c (1); } process b { x <- sync recv c; }";
+
+fn left(
+    rt: &(impl Abort + AllocGlobal),
+    text: &str,
+    limit: usize,
+    marks: [bool; 3],
+) -> Result<AllLeft, Fail>
+    requires some { 1 ≤ limit }
+    requires most { limit ≤ most_rows }
+{
+    let script = parse(rt.alloc(), text.as_bytes())?;
+    let processes = script.processes();
+    if processes.len() != 3 {
+        return Err(Fail::from("these are not three processes"));
+    }
+    Ok(find_left(rt.alloc(), processes, limit, &marks, &mut Unwatched)?)
+}
+
+#[test]
+fn who_was_not_met_is_left_behind(rt: HostRuntime) -> Result<(), Fail> {
+    let found = left(&rt, EITHER, 256, [true, true, true])?;
+    check_same(&rt, found.visited, 3);
+    let Left::Behind(first) = found.left else {
+        return Err(Fail::from("nobody is left behind"));
+    };
+    check_same(&rt, first.process, 1);
+    check_same(&rt, first.journal.as_slice(), [sent(0, 1)].as_slice());
+    Ok(())
+}
+
+#[test]
+fn a_clock_is_left_behind_alone(rt: HostRuntime) -> Result<(), Fail> {
+    let others = left(&rt, BESIDE_A_CLOCK, 256, [false, true, true])?;
+    check_same(&rt, matches!(others.left, Left::Nobody), true);
+    let all = left(&rt, BESIDE_A_CLOCK, 256, [true, true, true])?;
+    let Left::Behind(clock) = all.left else {
+        return Err(Fail::from("nobody is left behind"));
+    };
+    check_same(&rt, clock.process, 0);
+    check_same(&rt, clock.journal.len(), 0);
+    let cut = left(&rt, BESIDE_A_CLOCK, 1, [false, true, true])?;
+    check_same(&rt, matches!(cut.left, Left::Unknown), true);
     Ok(())
 }
 

@@ -12,7 +12,7 @@ use thread::Machine;
 #[derive(Drop)]
 pub(super) struct Suspended {
     pub(super) machine: Box<Machine>,
-    ghost keeps: { machine.value.keeps ≡ true },
+    ghost keeps: { machine.value.keeps.results ≡ true },
 }
 
 impl Resident for Suspended {
