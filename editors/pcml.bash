@@ -20,7 +20,7 @@ _pcml_options() {
     why) echo --rows --seasons --short --help ;;
     chart) echo --rows --seasons --from --to --only --as --help ;;
     next) echo --rows --help ;;
-    outcomes) echo --rows --limit --waiting --need --only --first --journal --of --help ;;
+    outcomes) echo --rows --limit --waiting --need --left --only --first --journal --of --help ;;
     stats) echo --rows --seasons --help ;;
     *) echo --help ;;
   esac
@@ -51,6 +51,7 @@ _pcml() {
     --need) _pcml_give all ;;
     --only) _pcml_give all ;;
     --as) _pcml_give 'mermaid svg' ;;
+    --left) _pcml_give all ;;
     --seasons | --from | --to | --limit | --of) ;;
     *) _pcml_argument ;;
   esac

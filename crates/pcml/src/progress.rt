@@ -7,7 +7,10 @@ use std::time::{Clock, Duration, Instant};
 /// Between two looks at the clock so many configurations are looked at.
 const LOOKS: u32 = 1024;
 
-/// Tells a person at a terminal once a second how far a search is. Without a stream nothing is told.
+/// The bytes of which a person is told how many states they have room for.
+const GIGABYTE: usize = 1_000_000_000;
+
+/// Tells a person at a terminal what a state takes, and once a second how far a search is. Without a stream nothing is told.
 #[derive(Drop)]
 pub(crate) struct Progress<'a, R: Clock, E: Write> {
     clock: &'a R,
@@ -46,13 +49,24 @@ impl<'a, R: Clock, E: Write> Progress<'a, R, E> {
 }
 
 impl<'a, R: Clock, E: Write> Watch for Progress<'a, R, E> {
+    fn begin(&mut self, least: usize, most: usize) {
+        if let Some(err) = &mut self.err {
+            let few = GIGABYTE / most.max(1);
+            let many = GIGABYTE / least.max(1);
+            let _ = writeln!(
+                err,
+                "a state takes {least} to {most} bytes: 1 GB has room for {few} to {many}"
+            );
+        }
+    }
+
     fn look(&mut self, seen: usize, open: usize) {
         self.looks = self.looks.wrapping_add(1) % LOOKS;
         if self.looks != 1 || self.err.is_none() || !self.is_due() {
             return;
         }
         if let Some(err) = &mut self.err {
-            let _ = writeln!(err, "{seen} configurations seen, {open} open");
+            let _ = writeln!(err, "{seen} states seen, {open} open");
         }
     }
 }

@@ -13,3 +13,4 @@ pub mod Asking
 pub mod Following
 pub mod Clearing
 pub mod Endings
+pub mod Leaving

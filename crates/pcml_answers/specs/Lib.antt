@@ -1,3 +1,4 @@
+pub mod Left
 pub mod Needs
 pub mod Counts
 pub mod Stats

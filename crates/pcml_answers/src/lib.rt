@@ -6,6 +6,7 @@
 //!   not come next (`reason_law`).
 //! - `outcomes_text`: all that a script can come to, with the journal that leads to one outcome, or comes round
 //!   (`listing.rt`). What is told is a function of what was found (`specs/Told.antt`).
+//! - `left_text`: who can never end any more, with the journal that leads there (`left.rt`).
 //! - `next_text`: the commits that may come next where a run led (`coming.rt`).
 //! - `push_process`, `standing_lines`: lines of processes, behind a run and behind a journal too (`processes.rt`).
 #![tactic(auto)]
@@ -15,6 +16,7 @@ mod coming;
 mod counts;
 mod ending;
 mod finding;
+mod left;
 mod listing;
 mod need;
 mod processes;
@@ -29,6 +31,7 @@ mod unlawful_text;
 
 pub use crate::coming::next_text;
 pub use crate::finding::Finding;
+pub use crate::left::{LeftText, left_text};
 pub use crate::listing::{OutcomesText, outcomes_laws, outcomes_text};
 pub use crate::need::{NamesFault, named_or_all, named_processes};
 pub use crate::processes::{push_process, standing_lines};

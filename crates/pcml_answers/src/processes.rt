@@ -24,7 +24,7 @@ fn push_printed(out: &mut String, script: &Script, printed: &[Atom]) -> Result<(
     Ok(())
 }
 
-fn push_name(out: &mut String, script: &Script, thread: usize) -> Result<(), AllocError>
+pub(crate) fn push_name(out: &mut String, script: &Script, thread: usize) -> Result<(), AllocError>
     requires { thread < length (script_of script.now).processes }
     ensures { OnOk result (Adds out.old out.new ((named (script_of script.now)).thread thread)) }
 {

@@ -19,6 +19,7 @@ SYNOPSIS
        pcml next FILE JOURNAL [--rows G]
        pcml outcomes FILE [--rows G] [--limit C] [--waiting] [--need NAMES]
        [--only NAMES] [--first] [--journal TO [--of K]]
+       pcml outcomes FILE --left NAMES [--limit C] [--journal TO]
        pcml check FILE
        pcml play FILE
        pcml stats FILE JOURNAL [--rows G] [--seasons K]
@@ -263,6 +264,24 @@ OPTIONS
               clients, and not a server that waits for its next client for
               ever. It does not go together with --waiting.
 
+       --left NAMES
+              Tells of outcomes nothing but who of these processes, which are
+              named as for --need, is left behind: some run leads to where it
+              never ends any more, whatever follows. It may be stuck there,
+              or others may go on for ever without it. A process that has
+              faulted has ended, and one that was never started has not.
+
+              The line left NAME states V tells who it is, with status 3: the
+              one that is left behind by the fewest commits, of several the
+              first.  --journal keeps a journal that leads there.  none in
+              place of the name, with all behind, and status 0: wherever a
+              run leads, each of these can still end.  unknown, with cut
+              behind, and status 1: there are more states than --limit.
+              States are told apart by what is left to do alone, and all
+              commits are followed: so there may be more than without the
+              option, or fewer. It goes together with --limit and --journal
+              alone.
+
        -h, --help
               Prints the help.
 
@@ -334,17 +353,19 @@ EXIT STATUS
               standard error; or a text that is no script, of which why tells
               that on standard output; or outcomes of which one leaves a
               process waiting or spent, or not all are known, with --waiting
-              or --need, or of which none has the number of --of.  Where
-              standard error is a terminal, the system's reason why a file
-              cannot be read stands behind a fault, or what why FILE tells of
-              a text that is no script.
+              or --need, or by --left it is not known who is left behind, or
+              of which none has the number of --of.  Where standard error is
+              a terminal, the system's reason why a file cannot be read
+              stands behind a fault, or what why FILE tells of a text that is
+              no script.
 
        2      Words that are not understood, a name that no process has, and
               a wish for help: what is to be said of it, or the help, is on
               standard error.
 
        3      A process that --need names has not ended, in the run or in
-              some outcome: all is on standard output.
+              some outcome, or one that --left names is left behind: all is
+              on standard output.
 
        70     The script ./pcml of the sources has no program to run and
               cannot answer without, or a check of an unproved build found

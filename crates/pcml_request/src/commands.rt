@@ -5,7 +5,9 @@ use crate::arguments::{
     limit_argument, of_argument, optional_file_argument, rows_argument, seasons_argument,
     stamp_argument,
 };
-use crate::request::{Drawing, Form, OfJournal, Question, Request, Running, Search, Wanted};
+use crate::request::{
+    Drawing, Form, Leaving, OfJournal, Question, Request, Running, Search, Wanted,
+};
 use clap::{Arg, ArgAction, ArgMatches, Command, value_parser};
 use pcml_explain::{Topic, Word};
 use std::alloc::{AllocError, Global};
@@ -177,6 +179,23 @@ fn replay_command<'a>(alloc: Global) -> Result<Command<'a>, AllocError> {
         .args(arguments)
 }
 
+/// It asks for something else than outcomes.
+fn left_argument<'a>(alloc: Global) -> Result<Arg<'a>, AllocError> {
+    Arg::new(alloc, "left")
+        .long("left")
+        .action(ArgAction::Set)
+        .value_name("NAMES")
+        .help(
+            "Processes, with commas between, or all: prints which of them can come to never end any more",
+        )
+        .conflicts_with("rows")?
+        .conflicts_with("waiting")?
+        .conflicts_with("need")?
+        .conflicts_with("only")?
+        .conflicts_with("first")?
+        .conflicts_with("of")
+}
+
 fn outcomes_command<'a>(alloc: Global) -> Result<Command<'a>, AllocError> {
     let file = file_argument(alloc, "file", "FILE", "The script");
     let waiting = flag_argument(
@@ -193,6 +212,7 @@ fn outcomes_command<'a>(alloc: Global) -> Result<Command<'a>, AllocError> {
             alloc,
             "Processes that have to end, with commas between, or all: prints only what keeps one from it"
         ),
+        left_argument(alloc)?,
         only_argument(
             alloc,
             "Processes that are told, with commas between, or all: the others make no other outcome"
@@ -217,6 +237,14 @@ fn wanted_of<'a>(outcomes: &ArgMatches<'a>) -> Wanted<'a> {
 
 /// The request of `outcomes`, by the words behind it.
 fn outcomes_request<'a>(outcomes: &ArgMatches<'a>) -> Option<Request<'a>> {
+    if let Some(names) = outcomes.get_str("left") {
+        return Some(Request::Left(Leaving {
+            script: outcomes.get_str("file")?,
+            limit: outcomes.get_one("limit")?,
+            names,
+            journal: outcomes.get_str("journal"),
+        }));
+    }
     Some(Request::Outcomes(Search {
         script: outcomes.get_str("file")?,
         rows: outcomes.get_one("rows"),

@@ -32,6 +32,17 @@ pub struct Search<'a> {
     pub of: Option<u32>,
 }
 
+/// Who can never end any more is to be told, of the processes of these names (separated by commas, or `all`), in runs of any
+/// length of the script in a file, where at most so many states are seen. The journal that leads there goes to a file,
+/// where one is named.
+#[derive(Clone, Copy, Debug)]
+pub struct Leaving<'a> {
+    pub script: &'a str,
+    pub limit: u32,
+    pub names: &'a str,
+    pub journal: Option<&'a str>,
+}
+
 /// How the script in a file is to be run: on so many workers, with so many rows a process, and where a number of
 /// seasons is named, so many in each of these. The lines of the journal go to a file, where one is named, and are left
 /// out of what is printed, where it is quiet. Where it is asked `why`, it is told too why each process stands where it
@@ -106,6 +117,8 @@ pub enum Request<'a> {
     WhyShort(&'a str),
     /// What a script can come to.
     Outcomes(Search<'a>),
+    /// Who is left behind in it.
+    Left(Leaving<'a>),
     /// What a fault or a word means, or the manual page.
     Explain(Topic),
     /// Which version of the program this is.

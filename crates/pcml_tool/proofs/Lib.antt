@@ -4,5 +4,6 @@ pub mod MeetingLedger
 pub mod Playing
 pub mod Running
 pub mod Crossing
+pub mod Keeping
 pub mod Wholes
 pub mod Whys

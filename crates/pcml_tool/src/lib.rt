@@ -8,6 +8,7 @@ mod answer;
 mod explain;
 mod fault;
 mod from_files;
+mod leaving;
 mod looking;
 mod meeting;
 mod play;

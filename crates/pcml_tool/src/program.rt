@@ -22,6 +22,7 @@ use crate::fault::Fault;
 use crate::from_files::{
     answer_journal, check_file, play_file, read_script, read_source, why_file, why_short_file,
 };
+use crate::leaving::answer_left;
 use crate::searching::{asked_of, keep_outcome};
 use crate::{
     RunText, explain_text, meet_text, run_parts, run_seasons_parts, version_text, why_standing,
@@ -223,6 +224,7 @@ fn answer<R: Threads + Wait + Sync, S: Source, W: Watch>(
     match asked {
         Request::Run(asked) => answer_run(rt, alloc, asked, source),
         Request::Outcomes(search) => answer_search(alloc, search, source, watch),
+        Request::Left(leaving) => answer_left(alloc, leaving, source, watch),
         Request::OfJournal(asked) => answer_journal(alloc, asked, source),
         Request::WhyScript(name) => why_file(alloc, source, name),
         Request::WhyShort(name) => why_short_file(alloc, source, name),
@@ -285,7 +287,7 @@ fn respond<R: Threads + Wait + Sync, S: Source, O: Write, E: Write, W: Watch>(
 /// Does what the words behind the program's name ask for, and answers the status: 0, or 1 after a
 /// fault, for a journal that is no run, where it is told why a text is no script, or where what was asked of a script's
 /// outcomes is not so or not known, 2 after words that are not understood, after a name that no process has and after a
-/// wish for help, or 3 where a process that had to end has not, or does not in some outcome. A fault is
+/// wish for help, or 3 where a process that had to end has not, or does not in some outcome, or is left behind. A fault is
 /// a line on the error stream; whether that stream takes it changes nothing. Who watches is told how far a search is.
 pub fn command<R: Threads + Wait + Sync, S: Source, O: Write, E: Write, W: Watch>(
     rt: &R,
@@ -303,7 +305,7 @@ pub fn command<R: Threads + Wait + Sync, S: Source, O: Write, E: Write, W: Watch
     // Where not, it has grown by a beginning of such an answer at most.
     ensures fault { result ≡ 1 → (asked : Request) × Began (S.holds source.old) (S.holds source.new) asked (O.contents out.old) (O.contents out.new) }
     ensures bad_words { result ≡ 2 → out.new ≡ out.old }
-    // A process that had to end has not: the output has grown by the whole answer.
+    // A process that had to end has not, or can never end any more: the output has grown by the whole answer.
     ensures lacking { result ≡ 3 → (asked : Request) × (text : List ℕ) × Answers (S.holds source.old) (S.holds source.new) asked Lacking text
         × Appends (O.contents out.old) (O.contents out.new) text }
 {

@@ -41,7 +41,7 @@ pub(crate) fn asked_of(alloc: Global, script: &Script, search: &Search<'_>) -> R
 }
 
 /// What the finding says of what was asked, where the journal of an outcome was asked for or not, and is there or not.
-fn verdict_of(finding: Finding, is_asked: bool, is_there: bool) -> Verdict
+pub(crate) fn verdict_of(finding: Finding, is_asked: bool, is_there: bool) -> Verdict
     ensures { result ≡ verdict_of finding is_asked is_there }
 {
     match finding {

@@ -1,18 +1,12 @@
-use Rattle.std.proofs.Common.{ℕ, List, Option, Some, None, ap, subst, ◌∙◌}
+use Rattle.std.proofs.Common.{ℕ, Option, ap, subst, ◌∙◌}
 use Rattle.std.specs.Option.{option_copied}
 use Rattle.std.specs.Prelude.{is_some}
 use Rattle.script.specs.Scripts.{script_of}
 use Rattle.pcml_answers.specs.declared.finding.Finding.{Finding}
 use Rattle.pcml_answers.specs.Told.{TellsOutcomes, bytes_of}
-use Rattle.pcml_tool.specs.Command.{Files, KeepsAsked}
 use Rattle.pcml_tool.specs.Searching.{verdict_of}
+use Rattle.pcml_tool.proofs.Keeping.{kept_on}
 use Rattle.pcml_tool.proofs.program.answer_search.Goals as goal
-
--- what files held before the script was read they held at first
-kept_on : (Holds Read Keeps : Files) (name lines : Option (List ℕ)) → ((file bytes : List ℕ) → Read file bytes → Holds file bytes) → KeepsAsked Read Keeps name lines → KeepsAsked Holds Keeps name lines
-kept_on Holds Read Keeps (Some name) (Some lines) before kept = kept
-kept_on Holds Read Keeps (Some name) None before kept = λ file bytes keeps. before file bytes (kept file bytes keeps)
-kept_on Holds Read Keeps None lines before kept = λ file bytes keeps. before file bytes (kept file bytes keeps)
 
 pub returns-clause-done : goal.returns-clause-done
 returns-clause-done g c =
