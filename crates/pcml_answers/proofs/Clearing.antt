@@ -41,16 +41,16 @@ none-later : (a b : Bool) → (a || b) ≡ false → b ≡ false
 none-later true b e = absurd (false≢true (sym e))
 none-later false b e = e
 
-both : (a b : Bool) → (a && b) ≡ true → (a ≡ true) × (b ≡ true)
+pub both : (a b : Bool) → (a && b) ≡ true → (a ≡ true) × (b ≡ true)
 both true b e = (refl, e)
 both false b e = absurd (false≢true e)
 
-any-at : {A : Type 0} (test : A → Bool) (xs : List A) (k : ℕ) (x : A) → slice_get xs k ≡ Some x → test x ≡ true → list_any test xs ≡ true
+pub any-at : {A : Type 0} (test : A → Bool) (xs : List A) (k : ℕ) (x : A) → slice_get xs k ≡ Some x → test x ≡ true → list_any test xs ≡ true
 any-at test [] k x is holds = absurd (none-some x is)
 any-at test (y ∷ xs) zero x is holds = ap (λ (b : Bool). b || list_any test xs) (ap test (same_Some y x is) ∙ holds)
 any-at test (y ∷ xs) (suc k) x is holds = later (test y) (list_any test xs) (any-at test xs k x is holds)
 
-none-at : {A : Type 0} (test : A → Bool) (xs : List A) (k : ℕ) (x : A) → list_any test xs ≡ false → slice_get xs k ≡ Some x → test x ≡ false
+pub none-at : {A : Type 0} (test : A → Bool) (xs : List A) (k : ℕ) (x : A) → list_any test xs ≡ false → slice_get xs k ≡ Some x → test x ≡ false
 none-at test [] k x none is = absurd (none-some x is)
 none-at test (y ∷ xs) zero x none is = ap test (sym (same_Some y x is)) ∙ none-first (test y) (list_any test xs) none
 none-at test (y ∷ xs) (suc k) x none is = none-at test xs k x (none-later (test y) (list_any test xs) none) is
@@ -69,7 +69,7 @@ some-holds test (y ∷ xs) any = one-more test y xs (test y) refl any (some-hold
 
 -- MARKS
 
-zip-at : {A : Type 0} (xs : List A) (marks : List Bool) (t : ℕ) (x : A) (m : Bool) → slice_get xs t ≡ Some x → slice_get marks t ≡ Some m → slice_get (zip xs marks) t ≡ Some (x, m)
+pub zip-at : {A : Type 0} (xs : List A) (marks : List Bool) (t : ℕ) (x : A) (m : Bool) → slice_get xs t ≡ Some x → slice_get marks t ≡ Some m → slice_get (zip xs marks) t ≡ Some (x, m)
 zip-at [] marks t x m is mark = absurd (none-some x is)
 zip-at (y ∷ xs) [] t x m is mark = absurd (none-some m mark)
 zip-at (y ∷ xs) (n ∷ marks) zero x m is mark = λ i. Some (same_Some y x is i, same_Some n m mark i)
@@ -113,11 +113,11 @@ marked-at (false ∷ marks) (x ∷ xs) (z ∷ ys) (suc t) y count same mark is =
 
 -- WHAT IS TOLD
 
-abbrev shown_from : Asked → ℕ → List Outcome → List (ℕ × Outcome)
+abbrev pub shown_from : Asked → ℕ → List Outcome → List (ℕ × Outcome)
 shown_from asked n outcomes = filter (λ (m : ℕ × Outcome). is_shown asked m.1) (enumerate_from n outcomes)
 
 -- where none is told, none is
-abbrev NoneShown : Asked → List Outcome → Type 0
+abbrev pub NoneShown : Asked → List Outcome → Type 0
 NoneShown asked outcomes = (k : ℕ) (o : Outcome) → slice_get outcomes k ≡ Some o → is_shown asked o ≡ false
 
 none-more : (asked : Asked) (p : Outcome) (outcomes : List Outcome) → is_shown asked p ≡ false → NoneShown asked outcomes → NoneShown asked (p ∷ outcomes)
@@ -128,7 +128,7 @@ none-first-shown : (asked : Asked) (n : ℕ) (p : Outcome) (more : List (ℕ × 
 none-first-shown asked n p more true none = absurd (omega (arith, none))
 none-first-shown asked n p more false none = (refl, none)
 
-none-shown : (asked : Asked) (n : ℕ) (outcomes : List Outcome) → length (shown_from asked n outcomes) ≡ 0 → NoneShown asked outcomes
+pub none-shown : (asked : Asked) (n : ℕ) (outcomes : List Outcome) → length (shown_from asked n outcomes) ≡ 0 → NoneShown asked outcomes
 none-shown asked n [] none = λ k o is. absurd (none-some o is)
 none-shown asked n (p ∷ outcomes) none =
     let w = none-first-shown asked n p (shown_from asked (n + 1) outcomes) (is_shown asked p) none in
@@ -156,7 +156,7 @@ is-stuck true clear e = refl
 is-stuck false true e = absurd (clear-stuck e)
 is-stuck false false e = absurd (open-stuck e)
 
-whole : (extent : Extent) → is_whole extent ≡ true → extent ≡ Whole
+pub whole : (extent : Extent) → is_whole extent ≡ true → extent ≡ Whole
 whole Whole e = refl
 whole Cut e = absurd (false≢true e)
 whole First e = absurd (false≢true e)
@@ -205,28 +205,28 @@ module _ (asked : Asked) (found : Outcomes) (ends : List End) (outputs : List (L
       ended Unstarted e = absurd (false≢true (sym e))
 
 -- what is said where nothing is told
-nothing-waits : (asked : Asked) (found : Outcomes) → asked.told ≡ TheWaiting → finding asked found ≡ Clear → ((is_whole found.extent && (length (shown asked found.outcomes.items) == 0)) ≡ true) × (not found.is_bounded ≡ true)
+pub nothing-waits : (asked : Asked) (found : Outcomes) → asked.told ≡ TheWaiting → finding asked found ≡ Clear → ((is_whole found.extent && (length (shown asked found.outcomes.items) == 0)) ≡ true) × (not found.is_bounded ≡ true)
 nothing-waits asked found waits clear =
     let nothing = is_whole found.extent && (length (shown asked found.outcomes.items) == 0) in
     both nothing (not found.is_bounded) (sym (ap (λ told. clears told nothing found.is_bounded) waits) ∙ is-clear (list_any (has_stuck asked.told) found.outcomes.items) (is_clear asked found) clear)
 
-nothing-lacks : (asked : Asked) (found : Outcomes) (needed : Vec Bool) → asked.told ≡ Lacking needed → finding asked found ≡ Clear → (is_whole found.extent && (length (shown asked found.outcomes.items) == 0)) ≡ true
+pub nothing-lacks : (asked : Asked) (found : Outcomes) (needed : Vec Bool) → asked.told ≡ Lacking needed → finding asked found ≡ Clear → (is_whole found.extent && (length (shown asked found.outcomes.items) == 0)) ≡ true
 nothing-lacks asked found needed lacks clear =
     let nothing = is_whole found.extent && (length (shown asked found.outcomes.items) == 0) in
     sym (ap (λ told. clears told nothing found.is_bounded) lacks) ∙ is-clear (list_any (has_stuck asked.told) found.outcomes.items) (is_clear asked found) clear
 
 -- an outcome in which a process that has to end is stuck
-record StuckIn (found : Outcomes) (needed : List Bool) : Type 0 where
-  number : ℕ
-  outcome : Outcome
-  is_its : slice_get found.outcomes.items number ≡ Some outcome
-  thread : ℕ
-  end : End
-  needed_is : IsMarked needed thread
-  ends_so : slice_get (ends_in outcome) thread ≡ Some end
-  stuck : is_stuck end ≡ true
+pub record StuckIn (found : Outcomes) (needed : List Bool) : Type 0 where
+  pub number : ℕ
+  pub outcome : Outcome
+  pub is_its : slice_get found.outcomes.items number ≡ Some outcome
+  pub thread : ℕ
+  pub end : End
+  pub needed_is : IsMarked needed thread
+  pub ends_so : slice_get (ends_in outcome) thread ≡ Some end
+  pub stuck : is_stuck end ≡ true
 
-stuck-in : (asked : Asked) (found : Outcomes) (needed : Vec Bool) → asked.told ≡ Lacking needed → finding asked found ≡ Stuck → StuckIn found needed.items
+pub stuck-in : (asked : Asked) (found : Outcomes) (needed : Vec Bool) → asked.told ≡ Lacking needed → finding asked found ≡ Stuck → StuckIn found needed.items
 stuck-in asked found needed lacks stuck =
     let holds = is-stuck (list_any (has_stuck asked.told) found.outcomes.items) (is_clear asked found) stuck in
     let w = some-holds (has_stuck asked.told) found.outcomes.items holds in

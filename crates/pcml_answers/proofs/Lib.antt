@@ -14,3 +14,4 @@ pub mod Following
 pub mod Clearing
 pub mod Endings
 pub mod Leaving
+pub mod Forever

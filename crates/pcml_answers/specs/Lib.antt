@@ -7,5 +7,7 @@ pub mod Reasons
 pub mod Telling
 pub mod Texts
 pub mod Standings
+pub mod Stranding
 pub mod Told
 pub mod Coming
+pub mod Forever

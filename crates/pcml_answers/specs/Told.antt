@@ -14,7 +14,7 @@ use Rattle.thread_stand.specs.declared.end.End.TheVariants.{Ended, Spent, Waitin
 use Rattle.configurations.specs.Taking.{heard_by}
 use Rattle.outcomes.specs.Asking.{is_told, marked}
 use Rattle.outcomes.specs.Outcomes.{AreAll, AreDifferent, AreOutcomes, AreVisited, CanSpend, LeadsTo, StopsAtFirst, ends_in, ends_of_all, outputs_in}
-use Rattle.outcomes.specs.States.{AreAllFree, AreFreeOutcomes, AreStates, ComesRound, EndsWithin, GoesOnForEver, LeadsFreelyTo}
+use Rattle.outcomes.specs.States.{AreAllFree, AreFreeOutcomes, AreRests, AreStates, ComesRound, EndsWithin, GoesOnForEver, LeadsFreelyTo}
 use Rattle.outcomes.specs.declared.Ending.{Ending}
 use Rattle.outcomes.specs.declared.Ending.TheVariants.{ForEver, Unknown, Within}
 use Rattle.outcomes.specs.declared.Extent.{Extent}
@@ -25,6 +25,9 @@ use Rattle.outcomes.specs.declared.asked.Told.TheVariants.{Each, Lacking, Waitin
 use Rattle.outcomes.specs.declared.Outcome.{Outcome}
 use Rattle.outcomes.specs.declared.Outcomes.{Outcomes}
 use Rattle.outcomes.specs.declared.Round.{Round}
+use Rattle.outcomes.specs.declared.stranded.AllStranded.{AllStranded}
+use Rattle.outcomes.specs.declared.stranded.Stranded.{Stranded}
+use Rattle.pcml_answers.specs.Stranding.{AreLostIn, AreTold, HaveRuns, is_unlooked, judged, looks_on, soonest_in, stranded_lines}
 use Rattle.pcml_answers.specs.Standings.{process_lines, standings}
 use Rattle.pcml_answers.specs.declared.finding.Finding.{Finding}
 use Rattle.pcml_answers.specs.declared.finding.Finding.TheVariants.{Clear, Open, Stuck}
@@ -48,10 +51,11 @@ outcome_line number = codes "outcome " ++ decimal number ++ 10 ∷ []
 abbrev pub outcome_text : Naming → List Bool → ℕ × Outcome → List ℕ
 outcome_text names marks n = outcome_line n.0 ++ process_lines names (marked marks (standings (ends_in n.1) (outputs_in n.1)))
 
--- what was counted: configurations, or the states of runs of any length
-abbrev pub seen_word : Option ℕ → List ℕ
-seen_word (Some rows) = codes "configurations"
-seen_word None = codes "states"
+-- what was counted: configurations, or the states of runs of any length, all or those that were followed
+abbrev pub seen_word : Option ℕ → Bool → List ℕ
+seen_word (Some rows) followed = codes "configurations"
+seen_word None true = codes "states followed"
+seen_word None false = codes "states"
 
 -- whether that is all there is, and within how many syncs a process where some had none left
 abbrev pub extent_text : Option ℕ → Extent → Bool → List ℕ
@@ -77,12 +81,19 @@ ending_text ending = []
 -- how many outcomes are told, how many configurations or states were seen, whether that is all, and how runs end
 abbrev pub last_line : Option ℕ → ℕ → Outcomes → List ℕ
 last_line rows told found =
-    codes "outcomes " ++ decimal told ++ codes " " ++ seen_word rows ++ codes " " ++ decimal found.visited ++ codes " " ++ extent_text rows found.extent found.is_bounded
+    codes "outcomes " ++ decimal told ++ codes " " ++ seen_word rows found.followed ++ codes " " ++ decimal found.visited ++ codes " " ++ extent_text rows found.extent found.is_bounded
     ++ ending_text (told_ending rows found) ++ 10 ∷ []
 
-abbrev pub outcomes_text : Naming → Option ℕ → Asked → Outcomes → List ℕ
-outcomes_text names rows asked found =
-    flat_map (outcome_text names asked.named.items) (shown asked found.outcomes.items) ++ last_line rows (length (shown asked found.outcomes.items)) found
+-- whether no outcome is told
+abbrev pub is_alone : Asked → Outcomes → Bool
+is_alone asked found = length (shown asked found.outcomes.items) == 0
+
+-- the outcomes that are told, who may be stranded, and the counts
+abbrev pub outcomes_text : Naming → Option ℕ → Asked → Outcomes → Option AllStranded → List ℕ
+outcomes_text names rows asked found stranded =
+    flat_map (outcome_text names asked.named.items) (shown asked found.outcomes.items)
+    ++ stranded_lines names asked.told (is_alone asked found) stranded
+    ++ last_line rows (length (shown asked found.outcomes.items)) found
 
 -- THE JOURNAL THAT IS KEPT
 
@@ -101,21 +112,31 @@ round_in (Some (ForEver round)) = round
 round_in ending = None
 
 -- where no outcome is asked for by its number, and there is none
-abbrev pub round_for : Option ℕ → Option Outcome → Option Round → Option Round
-round_for None None round = round
-round_for of outcome round = None
+abbrev pub stranded_for : Option ℕ → Option Outcome → Option Stranded → Option Stranded
+stranded_for None None stranded = stranded
+stranded_for of outcome stranded = None
 
-abbrev pub kept_round : Option ℕ → Option ℕ → Asked → Outcomes → Option Round
-kept_round rows of asked found = round_for of (asked_for of asked found.outcomes.items) (round_in (told_ending rows found))
+abbrev pub kept_stranded : Option ℕ → Asked → Outcomes → Option AllStranded → Option Stranded
+kept_stranded of asked found stranded = stranded_for of (asked_for of asked found.outcomes.items) (soonest_in (is_alone asked found) stranded)
 
-abbrev pub run_of : Option Outcome → Option Round → Option (List Commit)
-run_of (Some o) round = Some o.journal.items
-run_of None (Some r) = Some r.journal.items
-run_of None None = None
+-- nor one that is stranded
+abbrev pub round_for : Option ℕ → Option Outcome → Option Stranded → Option Round → Option Round
+round_for None None None round = round
+round_for of outcome stranded round = None
 
--- the run that leads to the outcome that is asked for; where no number is named and no outcome is told, one that comes round
-abbrev pub kept_run : Option ℕ → Option ℕ → Asked → Outcomes → Option (List Commit)
-kept_run rows of asked found = run_of (asked_for of asked found.outcomes.items) (kept_round rows of asked found)
+abbrev pub kept_round : Option ℕ → Option ℕ → Asked → Outcomes → Option AllStranded → Option Round
+kept_round rows of asked found stranded = round_for of (asked_for of asked found.outcomes.items) (kept_stranded of asked found stranded) (round_in (told_ending rows found))
+
+abbrev pub run_of : Option Outcome → Option Stranded → Option Round → Option (List Commit)
+run_of (Some o) stranded round = Some o.journal.items
+run_of None (Some s) round = Some s.journal.items
+run_of None None (Some r) = Some r.journal.items
+run_of None None None = None
+
+-- The run that leads to the outcome that is asked for; where no number is named and no outcome is told, one to where somebody is
+-- stranded, or else one that comes round.
+abbrev pub kept_run : Option ℕ → Option ℕ → Asked → Outcomes → Option AllStranded → Option (List Commit)
+kept_run rows of asked found stranded = run_of (asked_for of asked found.outcomes.items) (kept_stranded of asked found stranded) (kept_round rows of asked found stranded)
 
 -- the text of the run, where there is one, and else none
 abbrev pub SpellsKept : Script → Option (List Commit) → Option (List ℕ) → Type 0
@@ -155,7 +176,7 @@ pub record AreFoundFreely (s : Script) (limit : ℕ) (asked : Asked) (found : Ou
   pub outcomes : AreFreeOutcomes s.processes found.outcomes.items
   pub different : AreDifferent asked.named.items found.outcomes.items
   pub all : found.extent ≡ Whole → AreAllFree s.processes asked.named.items found.outcomes.items
-  pub visited : AreStates s.processes asked.named.items found.extent found.outcomes.items found.visited
+  pub visited : AreStates s.processes asked.named.items found.extent found.followed found.outcomes.items found.visited
   pub few : found.visited ≤ limit
   pub cut : found.extent ≡ Cut → found.visited ≡ limit
   pub first : StopsAtFirst asked found.extent (ends_of_all found.outcomes.items)
@@ -164,6 +185,7 @@ pub record AreFoundFreely (s : Script) (limit : ℕ) (asked : Asked) (found : Ou
   pub goes_on : (round : Option Round) → found.ending ≡ ForEver round → GoesOnForEver s.processes
   pub round : (round : Round) → found.ending ≡ ForEver (Some round) → ComesRound (heard_by asked.named.items) s.processes round
   pub known : found.extent ≡ Whole → found.ending ≢ Unknown
+  pub rests : found.extent ≡ Whole → AreRests s.processes asked.named.items found.outcomes.items
 
 -- of so many rows each, or where no number is named in runs of any length
 abbrev pub AreFoundIn : Script → Option ℕ → ℕ → Asked → Outcomes → Type 0
@@ -205,25 +227,26 @@ finding asked found =
     if list_any (has_stuck asked.told) found.outcomes.items then Stuck
     else (if is_clear asked found then Clear else Open)
 
--- whether some runs go on for ever
-abbrev pub is_endless : Option Ending → Bool
-is_endless (Some (ForEver round)) = true
-is_endless ending = false
+-- whether it is looked for who is stranded
+abbrev pub looks : Option ℕ → Asked → Outcomes → Bool
+looks rows asked found = looks_on rows asked.told found.extent found.ending (finding asked found)
 
 -- the text of what was found, and of the journal that is kept
-pub record IsListed (s : Script) (rows : Option ℕ) (asked : Asked) (of : Option ℕ) (found : Outcomes) (t : OutcomesText) : Type 0 where
-  pub text : t.text.items ≡ outcomes_text (named s) rows asked found
-  pub journal : SpellsKept s (kept_run rows of asked found) (bytes_of t.journal)
-  pub goes_on : t.goes_on ≡ circle_of (kept_round rows of asked found)
-  pub finding_is : t.finding ≡ finding asked found
+pub record IsListed (s : Script) (rows : Option ℕ) (asked : Asked) (of : Option ℕ) (found : Outcomes) (stranded : Option AllStranded) (t : OutcomesText) : Type 0 where
+  pub text : t.text.items ≡ outcomes_text (named s) rows asked found stranded
+  pub journal : SpellsKept s (kept_run rows of asked found stranded) (bytes_of t.journal)
+  pub goes_on : t.goes_on ≡ circle_of (kept_round rows of asked found stranded)
+  pub finding_is : t.finding ≡ judged asked.told (finding asked found) stranded
   pub cut : t.is_cut ≡ is_cut found.extent
-  pub endless : t.is_endless ≡ is_endless (told_ending rows found)
+  pub unlooked : t.is_unlooked ≡ is_unlooked stranded
 
 -- the text of something that was found
 pub record TellsOutcomes (s : Script) (rows : Option ℕ) (limit : ℕ) (asked : Asked) (of : Option ℕ) (t : OutcomesText) : Type 0 where
   pub found : Outcomes
   pub are : AreFoundIn s rows limit asked found
-  pub is : IsListed s rows asked of found t
+  pub stranded : Option AllStranded
+  pub lost : AreLostIn s limit asked (looks rows asked found) stranded
+  pub is : IsListed s rows asked of found stranded t
 
 -- OUTCOMES OF A SCRIPT
 
@@ -243,6 +266,16 @@ HaveLines s outcomes = (k : ℕ) (o : Outcome) → slice_get outcomes k ≡ Some
 pub record IsRoundOf (s : Script) (r : Round) : Type 0 where
   pub lines : AllByRecursion (HasLine (names_of s)) r.journal.items
   pub on : r.from < length r.journal.items
+
+-- who is stranded is one of the script's processes
+abbrev pub AreToldIn : Script → Option AllStranded → Type 0
+AreToldIn s None = ⊤
+AreToldIn s (Some all) = AreTold s all.stranded.items
+
+-- and its journal has such lines
+abbrev pub HaveRunsIn : Script → Option AllStranded → Type 0
+HaveRunsIn s None = ⊤
+HaveRunsIn s (Some all) = HaveRuns s all.stranded.items
 
 abbrev pub HasRoundOf : Script → Option Ending → Type 0
 HasRoundOf s ending = (r : Round) → round_in ending ≡ Some r → IsRoundOf s r

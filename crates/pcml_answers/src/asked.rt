@@ -6,11 +6,11 @@ ghost use Rattle.std.specs.List.{AllByRecursion, find};
 ghost use Rattle.script.specs.Scripts.{script_of};
 ghost use Rattle.journal_text.specs.Journals.{HasLine};
 ghost use Rattle.journal_text.specs.Names.{names_of};
-ghost use Rattle.pcml_answers.specs.Told.{IsNumber, SpellsKept, asked_for, bytes_of, circle_of, is_shown, round_for, run_of};
+ghost use Rattle.pcml_answers.specs.Told.{IsNumber, SpellsKept, asked_for, bytes_of, circle_of, is_shown, round_for, run_of, stranded_for};
 
 use crate::shown::is_shown;
 use journal_text::write_journal;
-use outcomes::{Asked, Outcome, Round};
+use outcomes::{Asked, Outcome, Round, Stranded};
 use protocol_values::Commit;
 use script::Script;
 use std::alloc::{AllocError, Global};
@@ -42,31 +42,49 @@ pub(crate) fn asked_for<'a>(
     }
 }
 
-/// The run that comes round, where no outcome is asked for by its number, and there is none.
-pub(crate) fn round_for<'a>(
+/// The one that is stranded, where no outcome is asked for by its number, and there is none.
+pub(crate) fn stranded_for<'a>(
     of: Option<u32>,
     outcome: Option<&Outcome>,
-    round: Option<&'a Round>,
-) -> Option<&'a Round>
-    ensures { option_copied result ≡ round_for of (option_copied outcome.entry) (option_copied round.entry) }
+    stranded: Option<&'a Stranded>,
+) -> Option<&'a Stranded>
+    ensures { option_copied result ≡ stranded_for of (option_copied outcome.entry) (option_copied stranded.entry) }
 {
     match (of, outcome) {
-        (None, None) => round,
+        (None, None) => stranded,
         _ => None,
     }
 }
 
-/// The commits of the run that leads to the outcome, or where there is none, of the one that comes round.
+/// The run that comes round, where no outcome is asked for by its number, and there is none, nor one that is stranded.
+pub(crate) fn round_for<'a>(
+    of: Option<u32>,
+    outcome: Option<&Outcome>,
+    stranded: Option<&Stranded>,
+    round: Option<&'a Round>,
+) -> Option<&'a Round>
+    ensures { option_copied result ≡ round_for of (option_copied outcome.entry) (option_copied stranded.entry) (option_copied round.entry) }
+{
+    match (of, outcome, stranded) {
+        (None, None, None) => round,
+        _ => None,
+    }
+}
+
+/// The commits of the run that leads to the outcome, or where there is none to where one is stranded, or of the one that
+/// comes round.
 pub(crate) fn run_of<'a>(
     outcome: Option<&'a Outcome>,
+    stranded: Option<&'a Stranded>,
     round: Option<&'a Round>,
 ) -> Option<&'a [Commit]>
-    ensures { option_copied result ≡ run_of (option_copied outcome.entry) (option_copied round.entry) }
+    ensures { option_copied result ≡ run_of (option_copied outcome.entry) (option_copied stranded.entry) (option_copied round.entry) }
 {
-    match (outcome, round) {
-        (Some(outcome), _) => Some(outcome.journal.as_slice()),
-        (None, Some(round)) => Some(round.journal.as_slice()),
-        (None, None) => None,
+    match (outcome, stranded, round) {
+        (Some(outcome), _, _) => Some(outcome.journal.as_slice()),
+        (None, Some(stranded), _) => Some(stranded.journal.as_slice()),
+        (None, None, Some(round)) => Some(round.journal.as_slice()),
+        (None, None, None) => None,
     }
 }
 

@@ -3,7 +3,7 @@
 ghost use Rattle.std.specs.Prelude.{◌≡◌, OnOk};
 ghost use Rattle.std.specs.Option.{option_copied};
 ghost use Rattle.script.specs.Appending.{Adds};
-ghost use Rattle.pcml_answers.specs.Told.{ending_text, is_endless, round_in, told_ending};
+ghost use Rattle.pcml_answers.specs.Told.{ending_text, round_in, told_ending};
 
 use outcomes::{Ending, Extent, Outcomes, Round};
 use std::alloc::AllocError;
@@ -27,13 +27,6 @@ pub(crate) fn push_ending(out: &mut String, ending: Option<&Ending>) -> Result<(
         Some(Ending::ForEver(_)) => out.push_str(", some runs go on for ever"),
         Some(Ending::Unknown) | None => Ok(()),
     }
-}
-
-/// Whether some runs go on for ever.
-pub(crate) fn is_endless(ending: Option<&Ending>) -> bool
-    ensures { result ≡ is_endless (option_copied ending.entry) }
-{
-    matches!(ending, Some(Ending::ForEver(_)))
 }
 
 /// A run that comes round, where runs go on for ever.

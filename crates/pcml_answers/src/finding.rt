@@ -10,11 +10,13 @@ use outcomes::{Asked, Extent, Outcome, Outcomes, Told};
 /// What was found of what was asked for.
 #[derive(Clone, Copy, Debug, PartialEq, Eq)]
 pub enum Finding {
-    /// All was seen, and no outcome is told of those that were looked for, or each was.
+    /// All was seen, and nothing of what was looked for is told; or each outcome was asked for.
     Clear,
     /// A process that has to end waits, has faulted or was never started in some outcome.
     Stuck,
-    /// Neither is known: not all was seen, or some process is spent; or some process waits, where that was asked for.
+    /// It does in none that was found, but is stranded in a run that goes on.
+    Stranded,
+    /// None of that is known: not all was seen, or some process is spent; or some process waits, where that was asked for.
     Open,
 }
 

@@ -24,6 +24,7 @@ mod reason;
 mod shown;
 mod stats;
 mod stats_lines;
+mod stranding;
 mod tallying;
 mod unlawful;
 mod unlawful_row;

@@ -101,12 +101,13 @@ pub(crate) fn shown_lines(
     Ok(lines)
 }
 
-/// What was counted: configurations, or the states of runs of any length.
-fn seen_word(rows: Option<u32>) -> &'static str
-    ensures { result.now ≡ seen_word rows }
+/// What was counted: configurations, or the states of runs of any length, all or those that were followed.
+fn seen_word(rows: Option<u32>, followed: bool) -> &'static str
+    ensures { result.now ≡ seen_word rows followed }
 {
     match rows {
         Some(_) => "configurations",
+        None if followed => "states followed",
         None => "states",
     }
 }
@@ -139,7 +140,7 @@ pub(crate) fn push_last_line(
     ensures { OnOk result (Adds out.old out.new (last_line rows told found.now)) }
 {
     let visited = found.visited;
-    let seen = seen_word(rows);
+    let seen = seen_word(rows, found.followed);
     write!(out, "outcomes {told} {seen} {visited} ")?;
     push_extent(out, rows, found.extent, found.is_bounded)?;
     push_ending(out, told_ending(rows, found))?;

@@ -9,7 +9,7 @@ use Rattle.pcml_answers.specs.declared.need.NamesFault.{NamesFault}
 use Rattle.pcml_answers.specs.declared.need.NamesFault.TheVariants as names
 use Rattle.pcml_check_c.specs.declared.answer.Answer.{Answer}
 use Rattle.pcml_check_c.specs.declared.told.Code.{Code}
-use Rattle.pcml_check_c.specs.declared.told.Code.TheVariants.{Done, NoScript, Open, Stuck, Unlawful}
+use Rattle.pcml_check_c.specs.declared.told.Code.TheVariants.{Done, NoScript, Open, Stranded, Stuck, Unlawful}
 use Rattle.pcml_check_c.specs.declared.told.Told.{Told}
 use Rattle.pcml_check_c.specs.declared.refusal.Refusal.{Refusal}
 use Rattle.pcml_check_c.specs.declared.refusal.Refusal.TheVariants.{BadLine, Form, Limit, Memory, NoText, Rows, Script, Unnamed}
@@ -22,6 +22,7 @@ code_of Open = 1
 code_of Unlawful = 2
 code_of Stuck = 3
 code_of NoScript = 4
+code_of Stranded = 5
 
 abbrev pub code_of_refusal : Refusal → ℕ
 code_of_refusal Memory = 16

@@ -7,16 +7,18 @@ use Rattle.script.specs.Spelling.{Spells}
 use Rattle.journal_text.specs.Names.{named}
 use Rattle.outcomes.specs.declared.asked.Asked.{Asked}
 use Rattle.outcomes.specs.declared.Outcomes.{Outcomes}
+use Rattle.outcomes.specs.declared.stranded.AllStranded.{AllStranded}
 use Rattle.pcml_answers.specs.declared.need.NamesFault.{NamesFault}
 use Rattle.pcml_answers.specs.declared.need.NamesFault.TheVariants as names
 use Rattle.pcml_request.specs.declared.request.Wanted.{Wanted}
-use Rattle.pcml_answers.specs.Told.{AreFoundIn, NamesNeeded, finding, outcomes_text}
+use Rattle.pcml_answers.specs.Stranding.{AreLostIn, judged}
+use Rattle.pcml_answers.specs.Told.{AreFoundIn, NamesNeeded, finding, looks, outcomes_text}
 use Rattle.pcml_answers.specs.declared.finding.Finding.{Finding}
 use Rattle.pcml_answers.specs.declared.finding.Finding.TheVariants as findings
 use Rattle.pcml_texts.specs.Searching.{IsAskedOf, MisnamesAsked}
 use Rattle.pcml_check_c.specs.Names.{Wants, given}
 use Rattle.pcml_check_c.specs.declared.told.Code.{Code}
-use Rattle.pcml_check_c.specs.declared.told.Code.TheVariants.{Done, Open, Stuck}
+use Rattle.pcml_check_c.specs.declared.told.Code.TheVariants.{Done, Open, Stranded, Stuck}
 use Rattle.pcml_check_c.specs.declared.told.Told.{Told}
 use Rattle.pcml_check_c.specs.declared.refusal.Refusal.{Refusal}
 use Rattle.pcml_check_c.specs.declared.refusal.Refusal.TheVariants as refusals
@@ -37,6 +39,7 @@ AreNumbers rows limit = AreRows rows × IsLimit limit
 abbrev pub code_of_finding : Finding → Code
 code_of_finding findings.Clear = Done
 code_of_finding findings.Stuck = Stuck
+code_of_finding findings.Stranded = Stranded
 code_of_finding findings.Open = Open
 
 -- what was found of the script that the bytes spell, of what was asked for
@@ -51,9 +54,11 @@ pub record IsSearched (script : List ℕ) (rows limit : ℕ) (need only : List �
   pub needed : NamesNeeded asked
   pub found : Outcomes
   pub are : AreFoundIn s (rows_of rows) limit asked found
-  pub code : told.code ≡ code_of_finding (finding asked found)
+  pub stranded : Option AllStranded
+  pub lost : AreLostIn s limit asked (looks (rows_of rows) asked found) stranded
+  pub code : told.code ≡ code_of_finding (judged asked.told (finding asked found) stranded)
   pub line : told.line ≡ 0
-  pub text : told.text.items ≡ outcomes_text (named s) (rows_of rows) asked found
+  pub text : told.text.items ≡ outcomes_text (named s) (rows_of rows) asked found stranded
 
 -- a name that no process of the script has, of those that are needed or of the others
 pub record Misnames (script need only : List ℕ) (fault : NamesFault) : Type 0 where

@@ -23,6 +23,7 @@ fn code_of_finding(finding: Finding) -> Code
     match finding {
         Finding::Clear => Code::Done,
         Finding::Stuck => Code::Stuck,
+        Finding::Stranded => Code::Stranded,
         Finding::Open => Code::Open,
     }
 }

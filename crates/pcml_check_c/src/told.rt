@@ -17,6 +17,8 @@ pub enum Code {
     Stuck,
     /// The text is no script.
     NoScript,
+    /// It is in none that was found, but a process that has to end is stranded in a run that goes on.
+    Stranded,
 }
 
 impl Code {
@@ -30,6 +32,7 @@ impl Code {
             Code::Unlawful => 2,
             Code::Stuck => 3,
             Code::NoScript => 4,
+            Code::Stranded => 5,
         }
     }
 }

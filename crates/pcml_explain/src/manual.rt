@@ -92,23 +92,37 @@ COMMANDS
 
               Behind all the last line tells how runs end: every run ends
               within and how many commits the longest makes, or some runs go
-              on for ever.  Where no outcome is told, --journal then keeps
-              such a run.
+              on for ever.  Where no outcome is told, and nobody is stranded,
+              --journal then keeps such a run.
+
+              A process is stranded where it has not ended without a fault,
+              and no way of commits leads on to one of its own, or to such an
+              end: one that waits for what never comes, has faulted, or is
+              never started. Where some runs go on for ever, a line stranded
+              NAME after N commits stands before the last one for each
+              process that is stranded where others can still move, with the
+              fewest commits that lead there. It takes a second search, in
+              which all commits are followed; where there are more states
+              than --limit, it tells what it found, and standard error that
+              not all was looked for. Who could move and is never chosen is
+              not stranded, nor who sends again for ever, or can always take
+              a time-out.
 
               With --need it is a test that some processes never get stuck:
-              the status is 0 only where each run that comes to an end brings
-              them to theirs.
+              the status is 0 only where none of them is ever stranded.
 
               A state is what each process has left to do, and what it has
               printed, of those that are told. There are many where many
               processes have little to do with one another, and more and more
-              where a process counts or prints for ever. Each keeps all that
-              was printed, so whoever prints for ever takes much memory, and
-              is left out by --only.  Where there are more than --limit, the
-              last line ends with cut, and standard error says what helps: a
-              larger --limit; --only or fewer messages; or --rows.  Where
-              standard error is a terminal, it shows once a second how many
-              were seen and how many are open.
+              where a process counts or prints for ever. The last line has
+              states followed where not all commits were followed, since one
+              of them can come first whatever follows. Each state keeps all
+              that was printed, so whoever prints for ever takes much memory,
+              and is left out by --only.  Where there are more than --limit,
+              the last line ends with cut, and standard error says what
+              helps: a larger --limit; --only or fewer messages; or --rows.
+              Where standard error is a terminal, it shows once a second how
+              many were seen and how many are open.
 
               With --rows it is of the runs alone in which a process makes at
               most G syncs. In place of the states configurations are
@@ -137,8 +151,9 @@ COMMANDS
               Prints what fault N means, the smallest file that gives it or
               how it comes about, and what to do. N may also be one of the
               words unset, kind, range, shape, waiting, spent, unstarted,
-              deadlock, nack, journal, stamp, tail, lawful, maximal, outcome
-              and configuration.  Without N it lists them all.
+              stranded, deadlock, nack, journal, stamp, tail, lawful,
+              maximal, outcome and configuration.  Without N it lists them
+              all.
 
        manual Prints this page.
 
@@ -203,13 +218,15 @@ OPTIONS
               standard error then says that no other command reads it.  For
               outcomes it is a journal that leads to the outcome of --of, or
               else to the first that is told; where there is no such outcome,
-              TO stays as it is. But where no number is named, and some runs
-              go on for ever, it is then a run that leads into a circle and
-              goes round once: behind it each process has the same left to do
-              as where the circle begins. Standard error tells goes on at
-              commit and the number of the circle's first commit, from 1.
-              Where a process makes more than 256 syncs in it, replay, why
-              and others want --rows or --seasons.
+              TO stays as it is. But where no number is named, it is then a
+              run that leads to where a process is stranded, of those that
+              are told the one with the fewest commits; or, where none is and
+              some runs go on for ever, one that leads into a circle and goes
+              round once: behind it each process has the same left to do as
+              where the circle begins. Standard error tells goes on at commit
+              and the number of the circle's first commit, from 1. Where a
+              process makes more than 256 syncs in it, replay, why and others
+              want --rows or --seasons.
 
        --of K The number of the outcome whose journal is written, from 1.
               Where there is none of that number, the status is 1.
@@ -221,15 +238,17 @@ OPTIONS
 
        --waiting
               Tells only the outcomes in which some process that is told is
-              left waiting. The status is 0 only where there are none, all
-              was seen, and with --rows no process of any outcome is spent:
-              of a process that is spent nothing is known. It cannot tell a
-              server that waits for its next client from a client that is
-              stuck: both wait. Where a script has servers, --need can.
+              left waiting, and of those that are stranded those that have
+              started and wait. The status is 0 only where there are none,
+              all was seen, and with --rows no process of any outcome is
+              spent: of a process that is spent nothing is known. It cannot
+              tell a server that waits for its next client from a client that
+              is stuck: both wait. Where a script has servers, --need can.
 
        --first
               Stops at the first outcome that is told: the last line then
-              ends with first.  Where none is told, it changes nothing.
+              ends with first, and nobody looks for who is stranded. Where
+              none is told, it changes nothing.
 
        --quiet
               Prints no journal.
@@ -252,31 +271,36 @@ OPTIONS
               Of run the status is 3 where one of these has not ended.
 
               Of outcomes only those outcomes are told in which one of these
-              has not ended, by the numbers that they have among all. The
-              status is 3 where one of these is left waiting, has faulted or
-              was never started. Else it is 1 where the search was cut, or
-              with --rows one of these is spent: whether it ends is not known
-              then. Else it is 0, and each run that comes to an end brings
-              them to theirs, with --rows each run within so many syncs a
-              process. Of a run that goes on for ever, in which a process may
-              be overtaken without end, it says nothing: where there are
-              some, and the status is 0, standard error says so.  Name the
-              clients, and not a server that waits for its next client for
-              ever. It does not go together with --waiting.
+              has not ended, by the numbers that they have among all. Of
+              those that are stranded where others can still move one is
+              told, which is so by the fewest commits, of several the first:
+              by a line stranded NAME states V, where the second search saw V
+              states. It is made too where the first was cut and told no
+              outcome. The status is 3 where an outcome leaves one of these
+              waiting, has it faulted or never started, or one is told as
+              stranded, though not all was seen; 0 where none ever is, by a
+              search that saw all, while one that goes on for ever need not
+              end; else 1. With --rows outcomes alone are judged, and it is 1
+              too where one of these is spent: whether it ends is not known
+              then.  Name the clients, and not a server that waits for its
+              next client for ever. It does not go together with --waiting.
 
        --left NAMES
               Tells of outcomes nothing but who of these processes, which are
               named as for --need, is left behind: some run leads to where it
               never ends any more, whatever follows. It may be stuck there,
               or others may go on for ever without it. A process that has
-              faulted has ended, and one that was never started has not.
+              faulted has ended, and one that was never started has not. One
+              that never ends by itself is always left behind, and standard
+              error says so: who can still move is asked by --need.
 
               The line left NAME states V tells who it is, with status 3: the
               one that is left behind by the fewest commits, of several the
               first.  --journal keeps a journal that leads there.  none in
               place of the name, with all behind, and status 0: wherever a
               run leads, each of these can still end.  unknown, with cut
-              behind, and status 1: there are more states than --limit.
+              behind, and status 1: there are more states than --limit, and
+              nobody is known to be left behind by those that were seen.
               States are told apart by what is left to do alone, and all
               commits are followed: so there may be more than without the
               option, or fewer. It goes together with --limit and --journal
@@ -352,20 +376,20 @@ EXIT STATUS
               run, whose line is on standard output, and after chart on
               standard error; or a text that is no script, of which why tells
               that on standard output; or outcomes of which one leaves a
-              process waiting or spent, or not all are known, with --waiting
-              or --need, or by --left it is not known who is left behind, or
-              of which none has the number of --of.  Where standard error is
-              a terminal, the system's reason why a file cannot be read
-              stands behind a fault, or what why FILE tells of a text that is
-              no script.
+              process waiting or spent, or beside which one waits for ever,
+              or of which not all is known, with --waiting or --need, or by
+              --left it is not known who is left behind, or of which none has
+              the number of --of.  Where standard error is a terminal, the
+              system's reason why a file cannot be read stands behind a
+              fault, or what why FILE tells of a text that is no script.
 
        2      Words that are not understood, a name that no process has, and
               a wish for help: what is to be said of it, or the help, is on
               standard error.
 
        3      A process that --need names has not ended, in the run or in
-              some outcome, or one that --left names is left behind: all is
-              on standard output.
+              some outcome, or may be stranded, or one that --left names is
+              left behind: all is on standard output.
 
        70     The script ./pcml of the sources has no program to run and
               cannot answer without, or a check of an unproved build found
@@ -392,13 +416,13 @@ EXAMPLES
               Lists the processes that wait in the end.
 
        pcml outcomes s.pcml --need client_a,client_b || exit 1
-              Tests that these two never get stuck, however long a run is,
-              for a test of one's own.
+              Tests that these two never get stuck, however long a run is and
+              whatever goes on beside them, for a test of one's own.
 
        pcml outcomes s.pcml --need all --first --journal s.journal || pcml
        why s.pcml s.journal
-              Tests that every process comes to its end in each run, and of
-              the first outcome where one does not tells why.
+              Tests that no process ever gets stuck, and of the first outcome
+              where one does, or where one is stranded, tells why.
 
        pcml outcomes s.pcml --only judge
               Tells what a process can print, and how it can end, whatever

@@ -27,6 +27,7 @@ pcml explain N, or a word of these, tells more:
   waiting        a process stands in a sync that nobody takes
   spent          a process made as many syncs as it may
   unstarted      a process was not spawned
+  stranded       a process can never move any more
   deadlock       processes wait for one another
   nack           what tells others that a sync took something else
   journal        what a run's lines say

@@ -38,7 +38,7 @@ comes about: also in a script that is as it should be, as a server that nobody a
 example: pcml run FILE tells a waiting, where FILE is
   channel c; process a { sync send c (1); }
 what to do: pcml why FILE JOURNAL tells where it waits, for what, and who waits for one another; pcml outcomes
-FILE --need NAMES whether any run keeps one of these from its end.
+FILE --need NAMES whether one of these may be stranded.
 ";
 
 pub(crate) const SPENT: &str = "\
@@ -55,6 +55,16 @@ comes about: where the process with the `spawn` did not come there. It printed n
 example: pcml run FILE tells kid unstarted, where FILE is
   channel c; process kid { print 1; } process a { sync recv c; spawn kid; }
 what to do: look at where the process stands that is to spawn it.
+";
+
+pub(crate) const STRANDED: &str = "\
+stranded: no way leads on to a commit of a process, nor to where it ends without a fault
+comes about: where it waits for what never comes, though others may go on for ever; where it has faulted; where nobody
+will spawn it. Who could move and is never chosen is not stranded, nor who can always take a time-out.
+example: pcml outcomes FILE tells stranded a after 0 commits, where FILE is
+  channel c; process a { sync send c (1); } process clock { forever { sync always (); } }
+what to do: pcml outcomes FILE --need NAMES --journal TO tells whether one of these may be stranded, by status 3, and
+keeps a run that leads there; pcml why FILE TO tells then what it waits for.
 ";
 
 pub(crate) const DEADLOCK: &str = "\

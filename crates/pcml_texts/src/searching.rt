@@ -5,6 +5,7 @@ ghost use Rattle.std.specs.List.{zip};
 ghost use Rattle.std.specs.Option.{option_copied};
 ghost use Rattle.script.specs.Scripts.{script_of};
 ghost use Rattle.outcomes.specs.declared.asked.Told.{Told as WhichTold};
+ghost use Rattle.pcml_answers.specs.Stranding.{sought};
 ghost use Rattle.pcml_answers.specs.Told.{NamesNeeded};
 ghost use Rattle.pcml_texts.specs.Searching.{IsAskedOf, MisnamesAsked};
 
@@ -38,6 +39,7 @@ pub fn asked_of(
     ensures asked { IfOk result (IsAskedOf (script_of script.now) wanted.entry (option_copied only.entry) first) }
     ensures needed { IfOk result NamesNeeded }
     ensures marks { IfOk result (λ asked. length asked.named.items ≡ length (script_of script.now).processes) }
+    ensures sought { IfOk result (λ asked. length (sought asked.told asked.named.items) ≡ length (script_of script.now).processes) }
     ensures fault { IfErr result (MisnamesAsked (script_of script.now) wanted.entry (option_copied only.entry)) }
 {
     match wanted {

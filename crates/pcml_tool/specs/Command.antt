@@ -48,9 +48,11 @@ use Rattle.pcml_tool.specs.declared.answer.Verdict.TheVariants.{Denied, Done, La
 use Rattle.journal_text.specs.Answers.{Explains}
 use Rattle.journal_text.specs.Names.{named}
 use Rattle.outcomes.specs.declared.Outcomes.{Outcomes as Found}
+use Rattle.outcomes.specs.declared.stranded.AllStranded.{AllStranded}
 use Rattle.outcomes.specs.declared.asked.Asked.{Asked}
 use Rattle.outcomes.specs.Asking.{has_unended}
-use Rattle.pcml_answers.specs.Told.{AreFoundIn, NamesNeeded, SpellsKept, bytes_of, finding, kept_run, outcomes_text}
+use Rattle.pcml_answers.specs.Stranding.{AreLostIn, judged}
+use Rattle.pcml_answers.specs.Told.{AreFoundIn, NamesNeeded, SpellsKept, bytes_of, finding, kept_run, looks, outcomes_text}
 use Rattle.pcml_answers.specs.declared.left.LeftText.{LeftText}
 use Rattle.pcml_tool.specs.Searching.{FailsAsked, IsAskedBy, verdict_of}
 use Rattle.script_mistakes.specs.Short.{TellsWhyShort}
@@ -148,11 +150,13 @@ pub record AnswersOutcomes (Holds Keeps : Files) (search : Search) (verdict : Ve
   pub needed : NamesNeeded asked
   pub found : Found
   pub are : AreFoundIn s search.rows search.limit asked found
+  pub stranded : Option AllStranded
+  pub lost : AreLostIn s search.limit asked (looks search.rows asked found) stranded
   pub lines : Option (List ℕ)
-  pub is_kept : SpellsKept s (kept_run search.rows search.of asked found) lines
+  pub is_kept : SpellsKept s (kept_run search.rows search.of asked found stranded) lines
   pub kept : KeepsAsked Holds Keeps (option_copied search.journal) lines
-  pub so : verdict ≡ verdict_of (finding asked found) (is_some search.of) (is_some lines)
-  pub is : text ≡ outcomes_text (named s) search.rows asked found
+  pub so : verdict ≡ verdict_of (judged asked.told (finding asked found) stranded) (is_some search.of) (is_some lines)
+  pub is : text ≡ outcomes_text (named s) search.rows asked found stranded
 
 -- the text of who is left behind of the processes that are named, and the journal that leads there, in a file where one is named
 pub record AnswersLeft (Holds Keeps : Files) (leaving : Leaving) (verdict : Verdict) (text : List ℕ) : Type 0 where

@@ -5,7 +5,7 @@ use Rattle.script.specs.Sources.{Script}
 use Rattle.outcomes.specs.declared.asked.Asked.{Asked}
 use Rattle.pcml_request.specs.declared.request.Search.{Search}
 use Rattle.pcml_answers.specs.declared.finding.Finding.{Finding}
-use Rattle.pcml_answers.specs.declared.finding.Finding.TheVariants.{Clear, Open, Stuck}
+use Rattle.pcml_answers.specs.declared.finding.Finding.TheVariants.{Clear, Open, Stranded, Stuck}
 use Rattle.pcml_texts.specs.Searching.{IsAskedOf, MisnamesAsked}
 use Rattle.pcml_tool.specs.declared.fault.Fault.{Fault}
 use Rattle.pcml_tool.specs.declared.fault.Fault.TheVariants as faults
@@ -24,5 +24,6 @@ FailsAsked s search fault = ⊥
 -- what a finding says where the journal of an outcome was asked for or not, and is there or not
 abbrev pub verdict_of : Finding → Bool → Bool → Verdict
 verdict_of Stuck asked there = TheLacking
+verdict_of Stranded asked there = TheLacking
 verdict_of Clear asked there = if not asked || there then Done else Denied
 verdict_of Open asked there = Denied

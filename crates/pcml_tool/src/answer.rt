@@ -15,23 +15,49 @@ pub(crate) enum Verdict {
     Lacking,
 }
 
+/// What is told behind the outcomes of a script.
+#[derive(Clone, Copy, Debug)]
+pub(crate) struct Behind {
+    /// Where the journal that was kept comes round, the number of the commit with which its circle begins.
+    pub(crate) goes_on: Option<usize>,
+    pub(crate) text: &'static str,
+    /// Where it is not known who is stranded, in more than how many states it was not looked for.
+    pub(crate) unlooked: Option<u32>,
+}
+
+impl Behind {
+    fn tell<E: Write>(self, err: &mut E) {
+        if let Some(number) = self.goes_on {
+            let _ = write!(err, "goes on at commit {number}\n");
+        }
+        let _ = write!(err, "{}", self.text);
+        if let Some(limit) = self.unlooked {
+            let _ = write!(
+                err,
+                "not looked for: who is stranded, that takes more than {limit} states\n"
+            );
+        }
+    }
+}
+
 /// What is told behind an answer, on the error stream.
 #[derive(Clone, Copy, Debug)]
 pub(crate) enum Advice {
     Nothing,
     Text(&'static str),
-    /// The journal that was kept comes round: the circle begins with the commit of this number. A text is told behind.
-    Circle(usize, &'static str),
+    Outcomes(Behind),
 }
 
 impl Advice {
     /// Tells it; whether the stream takes it changes nothing.
     pub(crate) fn tell<E: Write>(self, err: &mut E) {
-        let _ = match self {
-            Advice::Nothing => Ok(()),
-            Advice::Text(text) => write!(err, "{text}"),
-            Advice::Circle(number, text) => write!(err, "goes on at commit {number}\n{text}"),
-        };
+        match self {
+            Advice::Nothing => {}
+            Advice::Text(text) => {
+                let _ = write!(err, "{text}");
+            }
+            Advice::Outcomes(behind) => behind.tell(err),
+        }
     }
 }
 

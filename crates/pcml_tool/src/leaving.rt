@@ -22,10 +22,15 @@ use std::alloc::Global;
 const CUT: &str =
     "cut: not all states were seen. A larger --limit (up to 4194304) sees more; fewer messages make fewer.\n";
 
+/// What is told behind who is left behind.
+const ALWAYS_LEFT: &str =
+    "left: a process that never ends by itself is always left behind; --need asks who can still move\n";
+
 fn advice_of(finding: Finding) -> Advice {
     match finding {
         Finding::Open => Advice::Text(CUT),
-        Finding::Clear | Finding::Stuck => Advice::Nothing,
+        Finding::Stuck => Advice::Text(ALWAYS_LEFT),
+        Finding::Clear | Finding::Stranded => Advice::Nothing,
     }
 }
 

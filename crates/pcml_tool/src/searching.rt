@@ -3,16 +3,17 @@
 ghost use Rattle.std.specs.Prelude.{◌≡◌, IfErr, IfOk, OnOk, is_some, length};
 ghost use Rattle.std.specs.Option.{option_copied};
 ghost use Rattle.script.specs.Scripts.{script_of};
+ghost use Rattle.pcml_answers.specs.Stranding.{sought};
 ghost use Rattle.pcml_answers.specs.Told.{NamesNeeded, bytes_of};
 ghost use Rattle.pcml_tool.specs.Command.{IsOfKeeping, KeepsAsked};
 ghost use Rattle.pcml_tool.specs.Searching.{FailsAsked, IsAskedBy, verdict_of};
 
-use crate::answer::{Advice, Answer, Verdict};
+use crate::answer::{Advice, Answer, Behind, Verdict};
 use crate::fault::Fault;
 use outcomes::Asked;
 use pcml_answers::{Finding, OutcomesText};
 use pcml_files::Source;
-use pcml_request::{Search, Wanted};
+use pcml_request::Search;
 use script::Script;
 use std::alloc::Global;
 
@@ -24,16 +25,13 @@ const CUT: &str =
 const CUT_STATES: &str =
     "cut: not all states were seen. A larger --limit (up to 4194304) sees more; --only or fewer messages make fewer. --rows looks at runs of so many syncs a process alone.\n";
 
-/// What is told behind an answer by which processes always come to their end, where some runs have none.
-const NOT_JUDGED: &str =
-    "not judged: some runs go on for ever, and --need speaks of runs that end.\n";
-
 /// What a search asks for. Of the names of the processes that have to end, and then of those that are named alone, the
 /// first that no process has is a fault.
 pub(crate) fn asked_of(alloc: Global, script: &Script, search: &Search<'_>) -> Result<Asked, Fault>
     ensures asked { IfOk result (IsAskedBy (script_of script.now) search.now) }
     ensures needed { IfOk result NamesNeeded }
     ensures marks { IfOk result (λ asked. length asked.named.items ≡ length (script_of script.now).processes) }
+    ensures sought { IfOk result (λ asked. length (sought asked.told asked.named.items) ≡ length (script_of script.now).processes) }
     ensures fault { IfErr result (FailsAsked (script_of script.now) search.now) }
 {
     let asked = pcml_texts::asked_of(alloc, script, search.wanted, search.only, search.first)?;
@@ -45,35 +43,27 @@ pub(crate) fn verdict_of(finding: Finding, is_asked: bool, is_there: bool) -> Ve
     ensures { result ≡ verdict_of finding is_asked is_there }
 {
     match finding {
-        Finding::Stuck => Verdict::Lacking,
+        Finding::Stuck | Finding::Stranded => Verdict::Lacking,
         Finding::Clear if !is_asked || is_there => Verdict::Done,
         Finding::Clear | Finding::Open => Verdict::Denied,
     }
 }
 
-/// Whether it is told that processes always come to their end, and some runs come to none.
-fn is_unjudged(is_endless: bool, search: &Search<'_>, verdict: Verdict) -> bool {
-    match (search.wanted, verdict) {
-        (Wanted::Lacking(_), Verdict::Done) => is_endless,
-        _ => false,
-    }
-}
-
-/// What is told behind an answer: that not all was seen, or what is not judged; or nothing.
-fn text_behind(is_cut: bool, is_unjudged: bool, rows: Option<u16>) -> &'static str {
+/// What is told behind an answer for which not all was seen.
+fn cut_text(is_cut: bool, rows: Option<u16>) -> &'static str {
     match rows {
         Some(_) if is_cut => CUT,
         None if is_cut => CUT_STATES,
-        None if is_unjudged => NOT_JUDGED,
         Some(_) | None => "",
     }
 }
 
-/// The same behind the number of the commit with which a circle begins, where the journal that is kept comes round.
-fn advice_of(goes_on: Option<usize>, search: &Search<'_>, text: &'static str) -> Advice {
-    match (goes_on, search.journal) {
-        (Some(number), Some(_)) => Advice::Circle(number, text),
-        _ => Advice::Text(text),
+/// In more than how many states it was not looked for who is stranded, where that is not known.
+fn unlooked(is_unlooked: bool, verdict: Verdict, limit: u32) -> Option<u32> {
+    match verdict {
+        Verdict::Lacking => None,
+        _ if is_unlooked => Some(limit),
+        _ => None,
     }
 }
 
@@ -95,18 +85,20 @@ pub(crate) fn keep_outcome<S: Source>(
         goes_on,
         finding,
         is_cut,
-        is_endless,
+        is_unlooked,
     } = listed;
     let is_there = lines.is_some();
     if let (Some(lines), Some(name)) = (lines, search.journal) {
         source.store(name, &lines)?;
     }
     let verdict = verdict_of(finding, search.of.is_some(), is_there);
-    let is_unjudged = is_unjudged(is_endless, search, verdict);
-    let behind = text_behind(is_cut, is_unjudged, search.rows);
     Ok(Answer {
         verdict,
         text,
-        advice: advice_of(goes_on, search, behind),
+        advice: Advice::Outcomes(Behind {
+            goes_on: search.journal.and(goes_on),
+            text: cut_text(is_cut, search.rows),
+            unlooked: unlooked(is_unlooked, verdict, search.limit),
+        }),
     })
 }

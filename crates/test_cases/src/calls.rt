@@ -32,42 +32,44 @@ pub(crate) enum Wanted {
     Unlawful,
     /// Words that are not understood, or name what is not there, with a text that begins so.
     Refuses,
-    /// With this status, and its last line on the error stream.
+    /// With this status, and its last lines on the error stream.
     Warns(u8),
 }
 
-/// Whether what a stream got is this text and a line end.
-fn is_line(found: &[u8], text: &str) -> bool {
-    match str::from_utf8(found).unwrap_or("").strip_suffix("\n") {
-        Some(found) => found == text,
-        None => false,
-    }
-}
-
-/// What a listing of outcomes tells: the lines of each, sorted, how many there are, and whether that is all, and within
-/// what.
+/// What a listing of outcomes tells: the lines of each, sorted, who is stranded, how many outcomes there are, whether a
+/// commit was followed alone, and whether that is all, and within what.
 #[derive(Drop, PartialEq)]
 struct Listing<'a> {
     outcomes: Vec<&'a str>,
+    stranded: &'a str,
     count: &'a str,
+    is_followed: bool,
     extent: &'a str,
 }
 
-/// The number of outcomes and what is told of the search behind it, without how many configurations or states were seen.
-fn read_counts(line: &str) -> (&str, &str) {
-    let (count, behind) = line.split_once(' ').unwrap_or((line, ""));
+/// What is told of the search behind the number of outcomes, without how many configurations or states were seen, and
+/// whether a commit was followed alone.
+fn read_search(behind: &str) -> (bool, &str) {
     let seen = behind
         .strip_prefix("configurations ")
         .or(behind.strip_prefix("states "));
+    let rest = seen.unwrap_or(behind);
+    let followed = rest.strip_prefix("followed ");
+    let rest = followed.unwrap_or(rest);
     match seen {
-        Some(seen) => (count, seen.split_once(' ').unwrap_or((seen, "")).1),
-        None => (count, behind),
+        Some(_) => (
+            followed.is_some(),
+            rest.split_once(' ').unwrap_or((rest, "")).1,
+        ),
+        None => (followed.is_some(), rest),
     }
 }
 
 fn read_listing(alloc: Global, text: &str) -> Result<Listing<'_>, AllocError> {
-    let (blocks, last) = text.rsplit_once("outcomes ").unwrap_or(("", text));
-    let (count, extent) = read_counts(last);
+    let (told, last) = text.rsplit_once("outcomes ").unwrap_or(("", text));
+    let (blocks, stranded) = told.split_once("stranded ").unwrap_or((told, ""));
+    let (count, behind) = last.split_once(' ').unwrap_or((last, ""));
+    let (is_followed, extent) = read_search(behind);
     let mut outcomes = Vec::new(alloc);
     for block in blocks.split("outcome ").skip(1) {
         let (_, lines) = block.split_once('\n').unwrap_or((block, ""));
@@ -76,7 +78,9 @@ fn read_listing(alloc: Global, text: &str) -> Result<Listing<'_>, AllocError> {
     outcomes.sort()?;
     Ok(Listing {
         outcomes,
+        stranded,
         count,
+        is_followed,
         extent,
     })
 }
@@ -110,11 +114,12 @@ impl Outcome {
                     && err.starts_with(text);
             }
             Wanted::Warns(status) => {
-                let text = text.strip_suffix("\n").unwrap_or(text);
-                let (out, err) = text.rsplit_once('\n').unwrap_or(("", text));
+                let out = str::from_utf8(self.out.as_slice()).unwrap_or("");
+                let err = str::from_utf8(self.err.as_slice()).unwrap_or("");
                 return self.status == status
-                    && is_line(self.out.as_slice(), out)
-                    && is_line(self.err.as_slice(), err);
+                    && !out.is_empty()
+                    && !err.is_empty()
+                    && text.strip_prefix(out) == Some(err);
             }
         };
         self.status == status

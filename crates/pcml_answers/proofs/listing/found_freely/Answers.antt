@@ -3,7 +3,7 @@ use Rattle.script.specs.Scripts.{script_of}
 use Rattle.script_tree.specs.Processes.{Proc}
 use Rattle.journal_text.proofs.Lining.{run_has_lines}
 use Rattle.outcomes.specs.Outcomes.{ends_in, outputs_in}
-use Rattle.outcomes.specs.States.{AreAllFree, AreFreeOutcomes, AreStates, ComesRound, EndsWithin, GoesOnForEver}
+use Rattle.outcomes.specs.States.{AreAllFree, AreFreeOutcomes, AreRests, AreStates, ComesRound, EndsWithin, GoesOnForEver}
 use Rattle.outcomes.specs.declared.Ending.TheVariants.{ForEver, Within}
 use Rattle.outcomes.specs.declared.Extent.TheVariants.{Whole}
 use Rattle.outcomes.specs.declared.Round.{Round}
@@ -22,7 +22,7 @@ returns-clause-found g c =
       outcomes = subst (λ (ps : List Proc). AreFreeOutcomes ps found.outcomes.items) same told.told;
       different = told.different;
       all = subst (λ (ps : List Proc). found.extent ≡ Whole → AreAllFree ps asked.named.items found.outcomes.items) same told.whole;
-      visited = subst (λ (ps : List Proc). AreStates ps asked.named.items found.extent found.outcomes.items found.visited) same told.visited;
+      visited = subst (λ (ps : List Proc). AreStates ps asked.named.items found.extent found.followed found.outcomes.items found.visited) same told.visited;
       few = told.few;
       cut = told.cut;
       first = told.first;
@@ -31,6 +31,7 @@ returns-clause-found g c =
       goes_on = subst (λ (ps : List Proc). (round : Option Round) → found.ending ≡ ForEver round → GoesOnForEver ps) same told.goes_on;
       round = subst (λ (ps : List Proc). (round : Round) → found.ending ≡ ForEver (Some round) → ComesRound (heard_by asked.named.items) ps round) same told.round;
       known = told.known;
+      rests = subst (λ (ps : List Proc). found.extent ≡ Whole → AreRests ps asked.named.items found.outcomes.items) same told.rests;
     }
 
 pub returns-clause-lines : goal.returns-clause-lines

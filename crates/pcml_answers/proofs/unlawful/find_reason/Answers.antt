@@ -1,6 +1,3 @@
-use Rattle.std.proofs.Common.{ℕ, List, ap, subst}
-use Rattle.protocol_values.specs.declared.Commit.{Commit}
-use Rattle.journal_replay.specs.Replays.{StandsAfter}
 use Rattle.pcml_answers.proofs.Breaking.{stamped-at}
 use Rattle.pcml_answers.proofs.unlawful.find_reason.Goals as goal
 

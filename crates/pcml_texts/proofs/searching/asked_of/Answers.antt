@@ -49,3 +49,8 @@ returns-in_ok-named-in-Lacking-clause-needed c needed told t mark =
     let same : needed.items ≡ c.deref-in-Lacking.result.now = sym (ap needed-in told) ∙ sym c.deref-in-Lacking.ensures.value in
     let there = either-second c.deref.result.now c.deref-in-Lacking.result.now t (one ∙ sym two) (subst (λ (m : List Bool). slice_get m t ≡ Some true) same mark) in
     subst (λ (m : List Bool). slice_get m t ≡ Some true) (sym c.in_ok-named-in-Lacking.ensures) there
+
+pub returns-in_ok-named-in-Lacking-clause-sought : goal.returns-in_ok-named-in-Lacking-clause-sought
+returns-in_ok-named-in-Lacking-clause-sought c =
+    let s = script_of c.args.script.now in
+    ap (λ (m : List Bool). length m) c.in_ok-needed-in-Lacking.ensures.named.1 ∙ each-named s c.in-Lacking.names.now
