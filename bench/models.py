@@ -1,13 +1,17 @@
-"""Models for bench/spin, each written twice: as a script, and in Promela.
+"""Models for bench/spin, most of them written twice: as a script, and in Promela.
 
 The two have the same processes, which meet on the same channels without a buffer, and the same choices. Who may wait for
 ever without being stuck has an `end` label in Promela, and is not among those that the script's search needs. In Promela
 a variable is set to 0 behind its last use where SPIN then has fewer states.
+
+Those beside a clock are scripts alone. There no end is invalid, since the clock always goes on; and that somebody can
+never move again is said of all ways on from a place, while a formula of SPIN, as `<>[]` over a label, is of one run: it
+holds of a run in which somebody else goes on for ever too.
 """
 
 from collections import namedtuple
 
-# A model's name, its script, who must never get stuck in it, and the same in Promela.
+# A model's name, its script, who must never get stuck in it, and the same in Promela, or nothing.
 Model = namedtuple("Model", "name script needed promela")
 
 
@@ -191,6 +195,11 @@ def lock_server(users):
     return Model(f"lock, {users} users", script, [f"user{i}" for i in range(users)], promela)
 
 
+def beside_clock(model):
+    """The same, and a clock goes on for ever, whoever gets stuck."""
+    return Model(f"{model.name}, a clock", f"{model.script}process clock {{ forever {{ sync always (); }} }}\n", model.needed, None)
+
+
 ALL = [
     *map(philosophers, (5, 7, 9)),
     *map(alternating_bit, (False, True)),
@@ -200,4 +209,5 @@ ALL = [
     readers_writers(8, 2),
     election(6),
     lock_server(10),
+    *map(beside_clock, (philosophers(9), alternating_bit(False), two_phase(2, leave=True))),
 ]

@@ -40,11 +40,13 @@ def last_line(text):
 
 
 def listing(text):
-    """What a listing of outcomes tells: its outcomes, sorted, how many they are, and whether that is all."""
-    blocks, _, last = text.rpartition("outcomes ")
+    """What a listing of outcomes tells: its outcomes, sorted, who is stranded, how many outcomes there are, whether a
+    commit was followed alone, and whether that is all. Of a number of states it tells nothing."""
+    told, _, last = text.rpartition("outcomes ")
+    blocks, _, stranded = told.partition("stranded ")
     outcomes = sorted(it.partition("\n")[2] for it in blocks.split("outcome ")[1:])
     count, _, behind = last.partition(" ")
-    return outcomes, count, re.sub(r"^(configurations|states) \d+ ?", "", behind)
+    return outcomes, stranded, count, re.sub(r"^(configurations|states) (followed )?\d+ ?", r"\2", behind)
 
 
 def allowed(body, place):
@@ -111,8 +113,8 @@ class Player:
         if kind == "refuses":
             return answer.status == 2 and answer.out == b"" and answer.err != b"" and answer.err.startswith(body.encode())
         if kind.startswith("warns "):
-            out, _, err = body.removesuffix("\n").rpartition("\n")
-            return (answer.status, answer.out, answer.err) == (int(kind[6:]), f"{out}\n".encode(), f"{err}\n".encode())
+            is_both = answer.out != b"" and answer.err != b""
+            return is_both and (answer.status, answer.out + answer.err) == (int(kind[6:]), body.encode())
         if kind == "tells":
             is_last = last_line(answer.out).startswith("outcomes ")
             return answer.status == 0 and is_last and listing((answer.out + answer.err).decode()) == listing(body)

@@ -100,6 +100,8 @@ def statement_text(s):
         return f"forever {{ {block_text(s[1])} }}"
     if kind == "if":
         return f"if {s[1]} = {s[2]} {{ {block_text(s[3])} }} else {{ {block_text(s[4])} }}"
+    if kind == "end":
+        return "end;"
     return f"{kind} {s[1]};"
 
 def block_text(block):

@@ -30,6 +30,11 @@ LONG = "".join(f"channel c{n}; " for n in range(6)) + "".join(
     for n in range(6)
 )
 WRONG = "channel c;\nprocess a {\n  x = 1;\n}\n"
+# Two and a clock: nobody takes what dead sends, and late waits for ever behind a commit.
+BESIDE = (
+    "channel c;\nprocess clock { forever { sync always (); } }\n"
+    "process dead { sync send c (1); }\nprocess late { sync always (); sync never; }\n"
+)
 
 
 def wait_until(page, expression, what, seconds=20):
@@ -142,12 +147,11 @@ def options_count(driven, address):
     meets(text_of(page, "#answer"), "no process is named 'nobody'")
     choose_example(page, "ordered_philosophers")
     press_view(page, "outcomes")
-    needs_end(page, "plato,kant,hume", "--need plato,kant,hume", "Each of these ends in each run that comes to an end. Every run ends within 12 commits.", "met")
+    needs_end(page, "plato,kant,hume", "--need plato,kant,hume", "Each of these ends in each run. Every run ends within 12 commits.", "met")
     needs_end(page, "all", "--need all", "1 outcome in which one of these has not ended, and that is all.", "fault")
     fill(page, "#script", "process a { forever { sync always (); } }\n")
     press_view(page, "outcomes")
-    needs_end(page, "a", "--need a", "Each of these ends in each run that comes to an end. Some runs go on for ever.", "met")
-    meets(text_of(page, "#answer"), "not judged: some runs go on for ever")
+    needs_end(page, "a", "--need a", "None of these is ever stranded. Some runs go on for ever.", "met")
     fill(page, "#rows", "9")
     needs_end(page, "a", "--need a --rows 9", "1 outcome in which one of these has not ended, and that is all within 9 syncs", "open")
 
@@ -161,6 +165,37 @@ def needs_end(page, names, words, told, kind):
     assert "--waiting" not in text_of(page, ".asked")
     meets(text_of(page, "#told"), told)
     assert page.evaluate("document.querySelector('#told').className") == f"told {kind}"
+
+
+def colour_of(page, selector):
+    return page.evaluate(f"getComputedStyle(document.querySelector({json.dumps(selector)})).color")
+
+
+def stranded_is_told(driven, address):
+    """Who is stranded has a line and a colour of its own, and its run is shown."""
+    page = opened(driven, address)
+    fill(page, "#script", BESIDE)
+    press_view(page, "outcomes")
+    meets(text_of(page, "#told"), "0 outcomes, and that is all. Some runs go on for ever. May be stranded: dead, late.")
+    lines = page.evaluate("[...document.querySelectorAll('#stranded tr')].map((it) => it.textContent)")
+    assert lines == ["deadstranded after 0 commitsShow", "latestranded after 1 commitShow"], lines
+    colour = colour_of(page, "#stranded .stranded")
+    needs_end(page, "dead,clock", "--need dead,clock", "dead may be stranded, though others go on. Some runs go on for ever.", "fault")
+    assert text_of(page, "#stranded .stranded") == "stranded"
+    needs_end(page, "clock", "--need clock", "None of these is ever stranded. Some runs go on for ever.", "met")
+    meets(text_of(page, "#answer"), "One that could move and is never chosen is not stranded")
+    assert page.evaluate("document.querySelector('#stranded') === null")
+    fill(page, "#need", "")
+    page.press("Enter")
+    wait_answer(page)
+    page.click("#stranded tr:nth-child(2) button")
+    wait_answer(page)
+    meets(text_of(page, "#told"), "The chart of the 1 commit of a run that leaves late stranded.")
+    press_view(page, "why")
+    meets(text_of(page, "#answer"), "late waits at line 4", "dead waits at line 3")
+    choose_example(page, "crossed_sends")
+    press_view(page, "outcomes")
+    assert colour not in (colour_of(page, "#answer .waiting"), colour_of(page, "#told")), f"{colour} is that of others"
 
 
 def steps_go_and_come(driven, address):
@@ -327,6 +362,7 @@ TRIALS = [
     any_host_serves_it,
     views_show,
     options_count,
+    stranded_is_told,
     steps_go_and_come,
     faults_are_told,
     long_search_stops,

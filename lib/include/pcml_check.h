@@ -26,7 +26,7 @@
 #include <stdint.h>
 
 /* Two digits for each of the three numbers of the version: compare it with pcml_check_version(). */
-#define PCML_CHECK_VERSION 10100
+#define PCML_CHECK_VERSION 10200
 
 #ifdef __cplusplus
 extern "C" {
@@ -37,8 +37,9 @@ enum pcml_code {
     PCML_DONE = 0,           /* the script, the journal or the outcomes are as they should be; each call says how */
     PCML_OPEN = 1,           /* the journal is a run that goes on; or what was asked of outcomes is not known */
     PCML_UNLAWFUL = 2,       /* the journal is no run: `line` is the first with which it is none */
-    PCML_STUCK = 3,          /* a process that has to end waits for ever, or has faulted, in some outcome */
+    PCML_STUCK = 3,          /* some outcome leaves a process that has to end waiting, faulted or never started */
     PCML_NOT_A_SCRIPT = 4,   /* the text is no script, and `text` tells why */
+    PCML_STRANDED = 5,       /* no outcome that was found does, but some run leads to where one can never move any more */
 
     PCML_OUT_OF_MEMORY = 16, /* malloc gave none */
     PCML_BAD_SCRIPT = 17,    /* the script is none: `fault` is 11 to 16, `line` where it stands (0 for fault 16) */
@@ -96,10 +97,13 @@ pcml_check_answer pcml_check_journal(const char *script, size_t script_len, cons
  * 4194304: each takes memory, and 1048576 is the program's. `need` and `only` are names of processes with commas between, or
  * all, as for --need and --only; a length of 0 gives none. An outcome is told where a process of `need` has not ended,
  * and without `need` each; outcomes that differ in no process of `only` or `need` are one. With 0 rows the last line says
- * whether every run ends: a run that goes on for ever comes to no outcome, and is not judged.
- *   PCML_DONE            with `need`: all was seen, and each process of it ends in every outcome; without: always
- *   PCML_STUCK           some process of `need` waits for ever, has faulted or was never started in some outcome
- *   PCML_OPEN            neither is known: the search was cut, or a process had no sync left (never with 0 rows)
+ * whether every run ends. Where some go on for ever, it is told who is stranded: a process that has not ended without a
+ * fault, where no way of commits leads on to one of its own, or to such an end. Who could move and is never chosen is not.
+ *   PCML_DONE            with `need`: no process of it is ever stranded, or with rows each ends in every outcome; without:
+ *                        always
+ *   PCML_STUCK           some outcome leaves a process of `need` waiting, faulted or never started
+ *   PCML_STRANDED        no outcome that was found does, but a process of `need` may be stranded (never with rows)
+ *   PCML_OPEN            none of these is known: a search was cut, or a process had no sync left (never with 0 rows)
  *   PCML_BAD_ROWS, PCML_BAD_LIMIT, PCML_BAD_NAMES, PCML_BAD_SCRIPT, PCML_NO_PROCESS, PCML_OUT_OF_MEMORY
  */
 pcml_check_answer pcml_outcomes(const char *script, size_t script_len, uint32_t rows, uint32_t limit,

@@ -24,6 +24,8 @@ static const char PAIR[] = "channel c; process a { sync send c (42); } process b
 static const char JOURNAL[] = "1 a.0.0 -> b.0.0 c (42)\n";
 static const char CHOICE[] = "channel c; process a { sync send c (1); } process b { sync send c (2); } process d { x <- sync recv c; print x; }";
 static const char LONG_RUN[] = "channel c; process a { loop 9 { sync send c (1); } } process b { loop 9 { sync recv c; } }";
+static const char BESIDE[] = "channel c; process clock { forever { sync always (); } } process dead { sync send c (1); }";
+static const char KEPT[] = "channel take; channel give; process lock { forever { sync recv take; sync recv give; } } process clock { forever { sync always (); } } process one { sync send take (0); sync send give (0); } process two { sync send take (0); }";
 
 static pcml_check_answer check(const char *script) { return pcml_check(TEXT(script), text, ROOM); }
 static pcml_check_answer why(const char *script) { return pcml_why_script(TEXT(script), text, ROOM); }
@@ -104,6 +106,16 @@ static void found(void) {
     TOLD(outcomes(LONG_RUN, 0, 9, "all", ""), PCML_OPEN, 0, 0, "outcomes 0 states 9 cut\n");
     TOLD(outcomes("process a { sync always (); forever { sync always (); } }", 0, 9, "a", ""), PCML_DONE, 0, 0,
          "outcomes 0 states 2 all, some runs go on for ever\n");
+    /* Somebody is stranded in a run that goes on; with rows that run ends, and leaves it waiting. */
+    TOLD(outcomes(BESIDE, 0, 9, "dead", ""), PCML_STRANDED, 0, 0, "stranded dead states 1\noutcomes 0 states 1 all, some runs go on for ever\n");
+    TOLD(outcomes(BESIDE, 0, 9, "clock", ""), PCML_DONE, 0, 0, "outcomes 0 states 1 all, some runs go on for ever\n");
+    TOLD(outcomes(BESIDE, 0, 9, "", ""), PCML_DONE, 0, 0, "stranded dead after 0 commits\noutcomes 0 states 1 all, some runs go on for ever\n");
+    TOLD(outcomes(BESIDE, 2, 9, "dead", ""), PCML_STUCK, 0, 0,
+         "outcome 1\nclock spent\ndead waiting\noutcomes 1 configurations 3 all within 2 syncs\n");
+    TOLD(outcomes(KEPT, 0, 9, "one", ""), PCML_STRANDED, 0, 0, "stranded one states 5\noutcomes 0 states followed 1 all, some runs go on for ever\n");
+    TOLD(outcomes(KEPT, 0, 4, "one", ""), PCML_STRANDED, 0, 0, "stranded one states 4\noutcomes 0 states followed 1 all, some runs go on for ever\n");
+    TOLD(outcomes(KEPT, 0, 2, "one", ""), PCML_OPEN, 0, 0, "outcomes 0 states followed 1 all, some runs go on for ever\n");
+    TOLD(outcomes(KEPT, 0, 9, "two", ""), PCML_DONE, 0, 0, "outcomes 0 states followed 1 all, some runs go on for ever\n");
     TOLD(outcomes(PAIR, 1025, 9, "", ""), PCML_BAD_ROWS, 0, 0, "");
     TOLD(outcomes(PAIR, 1024, 9, "all", ""), PCML_DONE, 0, 0, "outcomes 0 configurations 2 all\n");
     TOLD(outcomes(PAIR, 256, 0, "", ""), PCML_BAD_LIMIT, 0, 0, "");

@@ -73,7 +73,7 @@ static int answer(const char *command, pcml_check_answer a, const char *text) {
     if (a.code >= PCML_OUT_OF_MEMORY) return refuse(a, text);
     if (a.code == PCML_UNLAWFUL && !strcmp(command, "chart")) return fprintf(stderr, "unlawful at line %zu\n", a.line), 1;
     fwrite(text, 1, a.text_len, stdout);
-    if (a.code == PCML_STUCK) return 3;
+    if (a.code == PCML_STUCK || a.code == PCML_STRANDED) return 3;
     return a.code != PCML_DONE && !(a.code == PCML_OPEN && !strcmp(command, "replay"));
 }
 

@@ -24,18 +24,23 @@ function read_run(text) {
   return { commits, stands: lines.slice(commits.length, -1).map(stand_of) };
 }
 
-// The outcomes and the last line of what `outcomes` prints.
+// The outcomes, who is stranded, and the last line of what `outcomes` prints. A process may be named `stranded`, but what it
+// prints is no such word.
 function read_outcomes(text) {
   const lines = lines_of(text);
   const last = lines.pop() ?? "";
   const outcomes = [];
+  const stranded = [];
   for (const line of lines) {
     const head = /^outcome ([0-9]+)$/.exec(line);
+    const [, name, commits] = /^stranded (\w+) (?:after ([0-9]+) commits|states [0-9]+)$/.exec(line) ?? [];
     if (head) outcomes.push({ number: Number(head[1]), stands: [] });
+    else if (name) stranded.push({ name, after: commits ? ` after ${counted(Number(commits), "commit")}` : "" });
     else outcomes.at(-1).stands.push(stand_of(line));
   }
-  const counts = /^outcomes [0-9]+ (configuration|state)s ([0-9]+) ?(.*)$/.exec(last) ?? [];
-  return { outcomes, seen: counted(Number(counts[2]), counts[1] ?? "state"), extent: counts[3] ?? "" };
+  const counts = /^outcomes [0-9]+ (configuration|state)s (?:followed )?([0-9]+) ?(.*)$/.exec(last) ?? [];
+  const seen = counted(Number(counts[2]), counts[1] ?? "state");
+  return { outcomes, stranded, seen, extent: counts[3] ?? "" };
 }
 
 // A text in which what stands between backquotes is code.
@@ -112,6 +117,27 @@ function drawn_outcomes(outcomes, follow) {
     more.remove();
   });
   return [block, made("p", {}, more)];
+}
+
+const OF_STRANDED = "A process is stranded where it can never move any more, whatever the others do. One that could move and "
+  + "is never chosen is not stranded, nor one that can always take a time-out.";
+
+function drawn_hint(text) {
+  return made("p", { class: "hint" }, text);
+}
+
+// A row for each process that is stranded though the run goes on.
+function drawn_stranded(stranded, follow) {
+  const rows = stranded.map(({ name, after }) => {
+    const label = { class: "plain", "aria-label": `Show where ${name} is stranded` };
+    return made("tr", {},
+      made("th", { scope: "row" }, name),
+      made("td", {}, made("span", { class: "stranded" }, `stranded${after}`)),
+      made("td", { class: "last" }, made_button("Show", () => follow(name), label)));
+  });
+  const table = made("table", { id: "stranded" }, made("tbody", {}, ...rows));
+  const title = drawn_title("Stranded, though others go on");
+  return [title, made("div", { class: "wide" }, table)];
 }
 
 // The chart's own rules are for black on white. These are of the page, and hold where the chart is drawn.

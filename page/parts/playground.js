@@ -162,27 +162,32 @@ class Playground {
   async outcomes() {
     const words = this.outcome_words();
     const answer = await this.play(words);
-    const { outcomes, seen, extent } = read_outcomes(answer.out);
+    const { outcomes, stranded, seen, extent } = read_outcomes(answer.out);
     const seen_in = `${seen} seen in ${Math.round(answer.milliseconds)} ms.`;
-    const hints = [seen_in, ...lines_of(answer.err)].map((line) => made("p", { class: "hint" }, line));
-    const drawn = outcomes.length ? drawn_outcomes(outcomes, (number) => this.follow(words, number)) : [];
+    const is_asked = stranded.length || (words.includes("--need") && extent.endsWith("for ever"));
+    const hints = [...(is_asked ? [OF_STRANDED] : []), seen_in, ...lines_of(answer.err)].map(drawn_hint);
+    const follow = (number) => this.follow([...words, "--of", String(number)]);
+    const drawn = outcomes.length ? drawn_outcomes(outcomes, follow) : [];
+    const follow_to = (name) => this.follow(["outcomes", SCRIPT, "--need", name]);
+    const others = stranded.length ? drawn_stranded(stranded, follow_to) : [];
     return {
-      told: told_of_outcomes(outcomes.length, extent, words),
+      told: told_of_outcomes(outcomes.length, stranded, extent, words, answer.status),
       kind: words.includes("--need") ? KINDS[answer.status] : "",
       asked: answer,
-      inside: [...drawn, ...hints],
+      inside: [...drawn, ...others, ...hints],
     };
   }
 
-  // Draws the journal that leads to an outcome. Why and Step go on from there.
-  async follow(words, number) {
+  // Draws the journal that leads to an outcome or, where none is told, to where a process is stranded. Why and Step go on
+  // from there.
+  async follow(words) {
     this.turn += 1;
     const turn = this.turn;
     this.begin_busy();
     try {
-      const answer = await this.play([...words, "--journal", JOURNAL, "--of", String(number)]);
+      const answer = await this.play([...words, "--journal", JOURNAL]);
       const commits = lines_of(answer.files[JOURNAL] ?? "");
-      this.keep(commits, `outcome ${number}`);
+      this.keep(commits, followed_by(words, read_outcomes(answer.out)));
       this.stepper.begin(commits);
     } catch (error) {
       if (turn === this.turn) this.draw(await this.refused(error));
@@ -269,6 +274,12 @@ class Refusal extends Error {
   }
 }
 
+// What the journal leads to that was kept: the outcome of the number that was asked for, or else what is told first.
+function followed_by(words, { outcomes, stranded }) {
+  if (words.includes("--of")) return `outcome ${words.at(-1)}`;
+  return outcomes.length ? `outcome ${outcomes[0].number}` : `a run that leaves ${stranded[0]?.name} stranded`;
+}
+
 function of_journal({ commits, of }) {
   return commits.length ? `the ${counted(commits.length, "commit")} of ${of}` : `${of}, which made no commit`;
 }
@@ -276,23 +287,34 @@ function of_journal({ commits, of }) {
 // Which outcomes are told, by the words of the call.
 function kind_of_outcomes(count, words) {
   const outcomes = counted(count, "outcome");
-  if (words.includes("--need")) return count ? `${outcomes} in which one of these has not ended` : "Each of these ends";
+  if (words.includes("--need")) return `${outcomes} in which one of these has not ended`;
   return words.includes("--waiting") ? `${outcomes} that leave${count === 1 ? "s" : ""} somebody waiting` : outcomes;
 }
 
-function told_of_outcomes(count, extent, words) {
-  const kind = kind_of_outcomes(count, words);
-  const is_met = words.includes("--need") && count === 0;
-  const ending = /^all(?:, (.+))?$/.exec(extent);
-  if (ending) {
-    const told = is_met ? `${kind} in each run that comes to an end.` : `${kind}, and that is all.`;
-    return ending[1] ? `${told} ${ending[1][0].toUpperCase()}${ending[1].slice(1)}.` : told;
-  }
+// What is told of those that have to end, where no outcome keeps one from it.
+function told_of_needed(stranded, extent, status) {
   const within = /^all within ([0-9]+) syncs/.exec(extent);
-  if (within) {
-    const syncs = `within ${counted(Number(within[1]), "sync")} a process.`;
-    return is_met ? `${kind} in every outcome ${syncs}` : `${kind}, and that is all ${syncs}`;
-  }
-  if (is_met) return `${kind} in what was seen. The search was cut, so it is not known of the rest.`;
+  if (stranded.length) return `${stranded[0].name} may be stranded, though others go on.`;
+  if (status !== 0) return "None of these gets stuck in what was seen. Not all was, so it is not known of the rest.";
+  if (within) return `Each of these ends in every outcome within ${counted(Number(within[1]), "sync")} a process.`;
+  return extent.endsWith("for ever") ? "None of these is ever stranded." : "Each of these ends in each run.";
+}
+
+// How all runs end, as the last line tells it.
+function told_ending(extent) {
+  const [, ending] = /^all, (.+)$/.exec(extent) ?? [];
+  return ending ? ` ${ending[0].toUpperCase()}${ending.slice(1)}.` : "";
+}
+
+function told_of_stranded(stranded) {
+  return stranded.length ? ` May be stranded: ${stranded.map((it) => it.name).join(", ")}.` : "";
+}
+
+function told_of_outcomes(count, stranded, extent, words, status) {
+  if (words.includes("--need") && count === 0) return told_of_needed(stranded, extent, status) + told_ending(extent);
+  const kind = kind_of_outcomes(count, words);
+  const [, within] = /^all within ([0-9]+) syncs/.exec(extent) ?? [];
+  if (within) return `${kind}, and that is all within ${counted(Number(within), "sync")} a process.`;
+  if (extent.startsWith("all")) return `${kind}, and that is all.${told_ending(extent)}${told_of_stranded(stranded)}`;
   return `${kind}. The search was cut, so there may be more.`;
 }

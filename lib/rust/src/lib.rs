@@ -120,11 +120,13 @@ impl Default for Search<'_> {
 /// What was found of what was asked for.
 #[derive(Clone, Copy, Debug, PartialEq, Eq)]
 pub enum Finding {
-    /// Each process that has to end does, in every outcome; so too where none has to. A run that goes on for ever comes to
-    /// no outcome: with 0 rows the last line of the text says whether some do.
+    /// No process that has to end is ever stranded, or with rows each ends in every outcome; so too where none has to.
     Clear,
-    /// Some process that has to end is stuck in some outcome.
+    /// Some outcome leaves a process that has to end waiting, faulted or never started.
     Stuck,
+    /// No outcome that was found does, but some run leads to where one is stranded: no commit of it may come any more,
+    /// nor its end, whatever others do. Who could move and is never chosen is not stranded. Only with 0 rows.
+    Stranded,
     /// Neither is known.
     Unknown,
 }
@@ -161,7 +163,7 @@ pub enum Chart {
 
 /// Whether the library that is linked is of this crate's version.
 pub fn is_same_version() -> bool {
-    raw::version() == 10_100
+    raw::version() == 10_200
 }
 
 /// Tells how many processes and channels the script has.
@@ -222,6 +224,7 @@ pub fn outcomes(script: impl AsRef<[u8]>, asked: &Search<'_>) -> Result<Outcomes
     let finding = match answer.code {
         DONE => Finding::Clear,
         STUCK => Finding::Stuck,
+        STRANDED => Finding::Stranded,
         _ => Finding::Unknown,
     };
     Ok(Outcomes { finding, text })
@@ -256,6 +259,7 @@ const DONE: u32 = 0;
 const OPEN: u32 = 1;
 const STUCK: u32 = 3;
 const NOT_A_SCRIPT: u32 = 4;
+const STRANDED: u32 = 5;
 
 /// The answer with its whole text: where a first buffer is too small, the call is made again.
 fn whole(call: impl Fn(&mut [u8]) -> Answer) -> (Answer, String) {

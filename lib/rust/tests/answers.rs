@@ -80,6 +80,15 @@ fn searches() {
             .finding,
         Finding::Stuck
     );
+    let beside = format!("{stuck} process clock {{ forever {{ sync always (); }} }}");
+    let found = outcomes(&beside, &Search { need: "a", ..asked }).unwrap();
+    assert_eq!(found.finding, Finding::Stranded);
+    assert!(found.text.starts_with("stranded a states 1\n"));
+    let clock = Search {
+        need: "clock",
+        ..asked
+    };
+    assert_eq!(outcomes(&beside, &clock).unwrap().finding, Finding::Clear);
     assert_eq!(
         outcomes(
             PAIR,
