@@ -35,9 +35,9 @@ use std::alloc::Global;
 /// The version of the library, in two digits for each of its three numbers.
 #[unsafe(no_mangle)]
 pub extern "C" fn pcml_check_version() -> u32
-    ensures { result ≡ 10100 }
+    ensures { result ≡ 10200 }
 {
-    10100
+    10200
 }
 
 /// How many processes and channels the script has, or its first fault.
