@@ -93,7 +93,7 @@ fn answerable<'a>(matches: &ArgMatches<'a>) -> Result<Request<'a>, (ErrorKind, &
     };
     let unknown = (
         ErrorKind::ValueValidation,
-        "it is no fault's number, and no word of these: unset, kind, range, shape, waiting, spent, unstarted, deadlock, nack, journal, stamp, tail, lawful, maximal, outcome, configuration",
+        "it is no fault's number, and no word of these: unset, kind, range, shape, waiting, spent, unstarted, stranded, deadlock, nack, journal, stamp, tail, lawful, maximal, outcome, configuration",
     );
     let asked = request_of(name, behind).ok_or(unknown)?;
     match objection(&asked) {
