@@ -15,8 +15,8 @@ use Rattle.outcomes.specs.declared.Extent.TheVariants.{Cut, First, Whole}
 use Rattle.outcomes.specs.declared.Outcome.{Outcome}
 use Rattle.outcomes.specs.declared.Round.{Round}
 use Rattle.outcomes.specs.declared.asked.Asked.{Asked}
-use Rattle.outcomes.specs.declared.stranded.AllStranded.{AllStranded}
-use Rattle.outcomes.specs.declared.stranded.Stranded.{Stranded}
+use Rattle.reachable.specs.declared.stranded.AllStranded.{AllStranded}
+use Rattle.reachable.specs.declared.stranded.Stranded.{Stranded}
 use Rattle.pcml_answers.specs.Stranding.{is_told, nearer, soonest, soonest_in, sooner}
 use Rattle.pcml_answers.specs.Told.{AllSaysWhetherRunsEnd, HaveLines, HaveRunsIn, HasRoundOf, asked_for, ending_of, ending_text, round_for, round_in, run_of, stranded_for, told_ending}
 use Rattle.pcml_answers.proofs.Asking.{asked-in}

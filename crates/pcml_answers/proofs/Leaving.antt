@@ -7,10 +7,10 @@ use Rattle.script.specs.Spelling.{IsSpelled}
 use Rattle.journal_text.specs.Journals.{HasLine}
 use Rattle.journal_text.specs.Names.{names_of}
 use Rattle.journal_text.proofs.Lining.{run_has_lines}
-use Rattle.outcomes.specs.Left.{IsLeftBehind}
-use Rattle.outcomes.specs.declared.left.Left.{Left}
-use Rattle.outcomes.specs.declared.left.Left.TheVariants.{Behind, Nobody, Unknown}
-use Rattle.outcomes.specs.declared.left.LeftBehind.{LeftBehind}
+use Rattle.reachable.specs.Left.{IsLeftBehind}
+use Rattle.reachable.specs.declared.left.Left.{Left}
+use Rattle.reachable.specs.declared.left.Left.TheVariants.{Behind, Nobody, Unknown}
+use Rattle.reachable.specs.declared.left.LeftBehind.{LeftBehind}
 use Rattle.pcml_answers.specs.Left.{left_run}
 
 -- each commit of its journal has a line

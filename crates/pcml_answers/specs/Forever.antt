@@ -4,11 +4,11 @@ use Rattle.std.specs.Global.{Vec}
 use Rattle.protocol_values.specs.declared.Commit.{Commit}
 use Rattle.script.specs.Sources.{Script}
 use Rattle.journal_replay.specs.Runs.{IsRun, config_of}
-use Rattle.outcomes.specs.Stranded.{IsLost, IsStranded}
 use Rattle.outcomes.specs.declared.asked.Asked.{Asked}
 use Rattle.outcomes.specs.declared.asked.Told.TheVariants.{Lacking, Waiting as TheWaiting}
 use Rattle.outcomes.specs.declared.Outcomes.{Outcomes}
-use Rattle.outcomes.specs.declared.stranded.AllStranded.{AllStranded}
+use Rattle.reachable.specs.Stranded.{IsLost, IsStranded}
+use Rattle.reachable.specs.declared.stranded.AllStranded.{AllStranded}
 use Rattle.pcml_answers.specs.declared.finding.Finding.TheVariants.{Clear, Stranded, Stuck}
 use Rattle.pcml_answers.specs.Stranding.{AreLostIn, judged}
 use Rattle.pcml_answers.specs.Told.{AreFoundFreely, IsMarked, NamesNeeded, finding, looks}

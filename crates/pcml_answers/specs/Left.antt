@@ -4,11 +4,11 @@ use Rattle.std.specs.Fmt.{decimal}
 use Rattle.protocol_values.specs.declared.Commit.{Commit}
 use Rattle.script.specs.Sources.{Script}
 use Rattle.journal_text.specs.Names.{Naming, named}
-use Rattle.outcomes.specs.Left.{EachCanEnd, IsLeftBehind}
-use Rattle.outcomes.specs.declared.left.AllLeft.{AllLeft}
-use Rattle.outcomes.specs.declared.left.Left.{Left}
-use Rattle.outcomes.specs.declared.left.Left.TheVariants.{Behind, Nobody, Unknown}
-use Rattle.outcomes.specs.declared.left.LeftBehind.{LeftBehind}
+use Rattle.reachable.specs.Left.{EachCanEnd, IsLeftBehind}
+use Rattle.reachable.specs.declared.left.AllLeft.{AllLeft}
+use Rattle.reachable.specs.declared.left.Left.{Left}
+use Rattle.reachable.specs.declared.left.Left.TheVariants.{Behind, Nobody, Unknown}
+use Rattle.reachable.specs.declared.left.LeftBehind.{LeftBehind}
 use Rattle.pcml_answers.specs.Told.{SpellsKept, bytes_of}
 use Rattle.pcml_answers.specs.declared.finding.Finding.{Finding}
 use Rattle.pcml_answers.specs.declared.finding.Finding.TheVariants.{Clear, Open, Stuck}

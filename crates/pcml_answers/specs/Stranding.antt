@@ -5,8 +5,6 @@ use Rattle.std.specs.List.{AllByRecursion, flat_map}
 use Rattle.script.specs.Sources.{Script}
 use Rattle.journal_text.specs.Journals.{HasLine}
 use Rattle.journal_text.specs.Names.{Naming, names_of}
-use Rattle.outcomes.specs.Left.{AreSeen}
-use Rattle.outcomes.specs.Stranded.{AreInTurn, AreStrandedBehind, TellAllLost}
 use Rattle.outcomes.specs.declared.Ending.{Ending}
 use Rattle.outcomes.specs.declared.Ending.TheVariants.{ForEver}
 use Rattle.outcomes.specs.declared.Extent.{Extent}
@@ -14,8 +12,10 @@ use Rattle.outcomes.specs.declared.Extent.TheVariants.{Cut, Whole}
 use Rattle.outcomes.specs.declared.asked.Asked.{Asked}
 use Rattle.outcomes.specs.declared.asked.Told.{Told}
 use Rattle.outcomes.specs.declared.asked.Told.TheVariants.{Each, Lacking, Waiting as TheWaiting}
-use Rattle.outcomes.specs.declared.stranded.AllStranded.{AllStranded}
-use Rattle.outcomes.specs.declared.stranded.Stranded.{Stranded}
+use Rattle.reachable.specs.Left.{AreSeen}
+use Rattle.reachable.specs.Stranded.{AreInTurn, AreStrandedBehind, TellAllLost}
+use Rattle.reachable.specs.declared.stranded.AllStranded.{AllStranded}
+use Rattle.reachable.specs.declared.stranded.Stranded.{Stranded}
 use Rattle.pcml_answers.specs.declared.finding.Finding.{Finding}
 use Rattle.pcml_answers.specs.declared.finding.Finding.TheVariants.{Clear, Open, Stranded as SomeStranded, Stuck}
 

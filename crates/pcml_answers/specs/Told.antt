@@ -25,8 +25,8 @@ use Rattle.outcomes.specs.declared.asked.Told.TheVariants.{Each, Lacking, Waitin
 use Rattle.outcomes.specs.declared.Outcome.{Outcome}
 use Rattle.outcomes.specs.declared.Outcomes.{Outcomes}
 use Rattle.outcomes.specs.declared.Round.{Round}
-use Rattle.outcomes.specs.declared.stranded.AllStranded.{AllStranded}
-use Rattle.outcomes.specs.declared.stranded.Stranded.{Stranded}
+use Rattle.reachable.specs.declared.stranded.AllStranded.{AllStranded}
+use Rattle.reachable.specs.declared.stranded.Stranded.{Stranded}
 use Rattle.pcml_answers.specs.Stranding.{AreLostIn, AreTold, HaveRuns, is_unlooked, judged, looks_on, soonest_in, stranded_lines}
 use Rattle.pcml_answers.specs.Standings.{process_lines, standings}
 use Rattle.pcml_answers.specs.declared.finding.Finding.{Finding}

@@ -10,7 +10,8 @@ ghost use Rattle.pcml_answers.specs.Told.{IsNumber, SpellsKept, asked_for, bytes
 
 use crate::shown::is_shown;
 use journal_text::write_journal;
-use outcomes::{Asked, Outcome, Round, Stranded};
+use outcomes::{Asked, Outcome, Round};
+use reachable::Stranded;
 use protocol_values::Commit;
 use script::Script;
 use std::alloc::{AllocError, Global};

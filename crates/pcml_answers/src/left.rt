@@ -8,14 +8,15 @@ ghost use Rattle.script.specs.Appending.{Adds};
 ghost use Rattle.script.specs.Scripts.{script_of};
 ghost use Rattle.journal_text.specs.Journals.{HasLine};
 ghost use Rattle.journal_text.specs.Names.{named, names_of};
-ghost use Rattle.outcomes.specs.declared.left.Left.TheVariants.{Behind};
-ghost use Rattle.outcomes.specs.declared.left.LeftBehind.{LeftBehind as LeftBehindPart};
+ghost use Rattle.reachable.specs.declared.left.Left.TheVariants.{Behind};
+ghost use Rattle.reachable.specs.declared.left.LeftBehind.{LeftBehind as LeftBehindPart};
 ghost use Rattle.pcml_answers.specs.Left.{AreLeft, TellsLeft, left_finding, left_line, left_run};
 
 use crate::asked::journal_of;
 use crate::finding::Finding;
 use crate::processes::push_name;
-use outcomes::{AllLeft, Left, Watch, find_left};
+use outcomes::Watch;
+use reachable::{AllLeft, Left, find_left};
 use protocol_values::Commit;
 use script::Script;
 use std::alloc::{AllocError, Global};

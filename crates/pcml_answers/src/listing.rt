@@ -14,7 +14,8 @@ use crate::ending::{round_in, told_ending};
 use crate::finding::{Finding, is_cut, judge};
 use crate::shown::{count_shown, push_last_line, shown_lines};
 use crate::stranding::{found_stranded, is_unlooked, judged, looks_on, push_stranded, soonest_in};
-use outcomes::{AllStranded, Asked, Outcomes, Watch, find_outcomes, find_states};
+use outcomes::{Asked, Outcomes, Watch, find_outcomes, find_states};
+use reachable::AllStranded;
 use script::Script;
 use std::alloc::{AllocError, Global};
 

@@ -10,9 +10,8 @@ ghost use Rattle.pcml_answers.specs.Stranding.{AreLost, AreTold, HaveRuns, asks_
 
 use crate::finding::Finding;
 use crate::processes::push_name;
-use outcomes::{
-    AllStranded, Asked, Ending, Extent, Outcomes, Stranded, Told, Watch, find_stranded,
-};
+use outcomes::{Asked, Ending, Extent, Outcomes, Told, Watch};
+use reachable::{AllStranded, Stranded, find_stranded};
 use script::Script;
 use std::alloc::{AllocError, Global};
 

@@ -7,7 +7,7 @@ use Rattle.script.specs.Spelling.{Spells}
 use Rattle.journal_text.specs.Names.{named}
 use Rattle.outcomes.specs.declared.asked.Asked.{Asked}
 use Rattle.outcomes.specs.declared.Outcomes.{Outcomes}
-use Rattle.outcomes.specs.declared.stranded.AllStranded.{AllStranded}
+use Rattle.reachable.specs.declared.stranded.AllStranded.{AllStranded}
 use Rattle.pcml_answers.specs.declared.need.NamesFault.{NamesFault}
 use Rattle.pcml_answers.specs.declared.need.NamesFault.TheVariants as names
 use Rattle.pcml_request.specs.declared.request.Wanted.{Wanted}

@@ -48,9 +48,9 @@ use Rattle.pcml_tool.specs.declared.answer.Verdict.TheVariants.{Denied, Done, La
 use Rattle.journal_text.specs.Answers.{Explains}
 use Rattle.journal_text.specs.Names.{named}
 use Rattle.outcomes.specs.declared.Outcomes.{Outcomes as Found}
-use Rattle.outcomes.specs.declared.stranded.AllStranded.{AllStranded}
 use Rattle.outcomes.specs.declared.asked.Asked.{Asked}
 use Rattle.outcomes.specs.Asking.{has_unended}
+use Rattle.reachable.specs.declared.stranded.AllStranded.{AllStranded}
 use Rattle.pcml_answers.specs.Stranding.{AreLostIn, judged}
 use Rattle.pcml_answers.specs.Told.{AreFoundIn, NamesNeeded, SpellsKept, bytes_of, finding, kept_run, looks, outcomes_text}
 use Rattle.pcml_answers.specs.declared.left.LeftText.{LeftText}

@@ -5,7 +5,8 @@ ghost use Rattle.protocol_values.specs.Commits.{most_rows};
 
 use super::check_same;
 use journal_replay::{End, replay};
-use outcomes::{AllLeft, Asked, Extent, Left, Outcomes, Told, Unwatched, find_left, find_outcomes};
+use outcomes::{Asked, Extent, Outcomes, Told, Unwatched, find_outcomes};
+use reachable::{AllLeft, Left, find_left};
 use protocol_values::{Atom, Commit, Message, Row};
 use script::parse;
 use std::alloc::Global;

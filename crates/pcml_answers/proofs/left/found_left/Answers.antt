@@ -1,9 +1,9 @@
 use Rattle.std.proofs.Common.{◌≡◌, List, subst}
 use Rattle.script.specs.Scripts.{script_of}
 use Rattle.script_tree.specs.Processes.{Proc}
-use Rattle.outcomes.specs.Left.{EachCanEnd, IsLeftBehind}
-use Rattle.outcomes.specs.declared.left.Left.TheVariants.{Behind, Nobody}
-use Rattle.outcomes.specs.declared.left.LeftBehind.{LeftBehind}
+use Rattle.reachable.specs.Left.{EachCanEnd, IsLeftBehind}
+use Rattle.reachable.specs.declared.left.Left.TheVariants.{Behind, Nobody}
+use Rattle.reachable.specs.declared.left.LeftBehind.{LeftBehind}
 use Rattle.pcml_answers.proofs.Leaving.{left-has-lines}
 use Rattle.pcml_answers.proofs.left.found_left.Goals as goal
 

@@ -9,8 +9,8 @@ use Rattle.journal_text.specs.Names.{names_of}
 use Rattle.outcomes.specs.declared.Ending.{Ending}
 use Rattle.outcomes.specs.declared.Outcome.{Outcome}
 use Rattle.outcomes.specs.declared.Round.{Round}
-use Rattle.outcomes.specs.declared.stranded.AllStranded.{AllStranded}
-use Rattle.outcomes.specs.declared.stranded.Stranded.{Stranded}
+use Rattle.reachable.specs.declared.stranded.AllStranded.{AllStranded}
+use Rattle.reachable.specs.declared.stranded.Stranded.{Stranded}
 use Rattle.pcml_answers.specs.Stranding.{soonest_in}
 use Rattle.pcml_answers.specs.Told.{asked_for, round_for, round_in, run_of, stranded_for, told_ending}
 use Rattle.pcml_answers.proofs.Endings.{kept-has-lines}

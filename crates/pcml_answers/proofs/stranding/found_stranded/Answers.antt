@@ -3,9 +3,9 @@ use Rattle.std.proofs.lemmas.Option.{get_or_from_slice_get, slice_get_within}
 use Rattle.script.specs.Scripts.{script_of}
 use Rattle.script_tree.specs.Processes.{Proc, proc_of}
 use Rattle.journal_text.proofs.Lining.{run_has_lines}
-use Rattle.outcomes.specs.Left.{AreSeen}
-use Rattle.outcomes.specs.Stranded.{AreStrandedBehind, TellAllLost}
-use Rattle.outcomes.specs.declared.stranded.Stranded.{Stranded}
+use Rattle.reachable.specs.Left.{AreSeen}
+use Rattle.reachable.specs.Stranded.{AreStrandedBehind, TellAllLost}
+use Rattle.reachable.specs.declared.stranded.Stranded.{Stranded}
 use Rattle.pcml_answers.specs.Stranding.{asks_who_waits, sought}
 use Rattle.pcml_answers.proofs.stranding.found_stranded.Goals as goal
 
