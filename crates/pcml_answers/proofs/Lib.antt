@@ -8,10 +8,4 @@ mod Rows
 mod Breaking
 mod Refusing
 pub mod Lines
-pub mod Showing
-pub mod Asking
 pub mod Following
-pub mod Clearing
-pub mod Endings
-pub mod Leaving
-pub mod Forever

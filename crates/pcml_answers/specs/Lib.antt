@@ -1,4 +1,3 @@
-pub mod Left
 pub mod Needs
 pub mod Counts
 pub mod Stats
@@ -7,7 +6,4 @@ pub mod Reasons
 pub mod Telling
 pub mod Texts
 pub mod Standings
-pub mod Stranding
-pub mod Told
 pub mod Coming
-pub mod Forever

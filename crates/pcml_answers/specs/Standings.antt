@@ -1,6 +1,6 @@
 -- How processes stand, and the lines that tell it.
-use Rattle.std.specs.Prelude.{◌≡◌, ℕ, List, [], ◌∷◌, ◌++◌, length, codes, map, Some, slice_get}
-use Rattle.std.specs.List.{enumerate_from, flat_map, zip}
+use Rattle.std.specs.Prelude.{◌≡◌, ℕ, List, [], ◌∷◌, ◌++◌, length, codes, Some, slice_get}
+use Rattle.std.specs.List.{flat_map}
 use Rattle.protocol_values.specs.declared.Atom.{Atom}
 use Rattle.script_tree.specs.Processes.{Proc}
 use Rattle.journal_text.specs.Names.{Naming}
@@ -41,10 +41,6 @@ IsStandingOf ends outputs t p = (p.thread ≡ t) × (slice_get ends t ≡ Some p
 pub record AreStandings (ends : List End) (outputs : List (List Atom)) (standing : List Standing) : Type 0 where
   pub count : length standing ≡ length ends
   pub each : (t : ℕ) (p : Standing) → slice_get standing t ≡ Some p → IsStandingOf ends outputs t p
-
--- the processes with these ends and outputs, in their order
-abbrev pub standings : List End → List (List Atom) → List Standing
-standings ends outputs = map (λ p. record { thread = p.0; end = p.1.0; printed = p.1.1 }) (enumerate_from 0 (zip ends outputs))
 
 -- the lines of processes with these ends and outputs
 pub record TellsStandings (names : Naming) (ends : List End) (outputs : List (List Atom)) (text : List ℕ) : Type 0 where

@@ -4,38 +4,26 @@
 //! - `stats_text`: how often each process and channel took part in a journal (`stats.rt`).
 //! - `find_reason`, `push_reason`: why a commit may not come next (`unlawful.rt`). Where a reason holds of a commit it may
 //!   not come next (`reason_law`).
-//! - `outcomes_text`: all that a script can come to, with the journal that leads to one outcome, or comes round
-//!   (`listing.rt`). What is told is a function of what was found (`specs/Told.antt`).
-//! - `left_text`: who can never end any more, with the journal that leads there (`left.rt`).
 //! - `next_text`: the commits that may come next where a run led (`coming.rt`).
-//! - `push_process`, `standing_lines`: lines of processes, behind a run and behind a journal too (`processes.rt`).
+//! - `push_name`, `push_process`, `standing_lines`: lines of processes, behind a run and behind a journal too
+//!   (`processes.rt`).
 #![tactic(auto)]
 
-mod asked;
 mod coming;
 mod counts;
-mod ending;
-mod finding;
-mod left;
-mod listing;
 mod need;
 mod processes;
 mod reason;
-mod shown;
 mod stats;
 mod stats_lines;
-mod stranding;
 mod tallying;
 mod unlawful;
 mod unlawful_row;
 mod unlawful_text;
 
 pub use crate::coming::next_text;
-pub use crate::finding::Finding;
-pub use crate::left::{LeftText, left_text};
-pub use crate::listing::{OutcomesText, outcomes_laws, outcomes_text};
 pub use crate::need::{NamesFault, named_or_all, named_processes};
-pub use crate::processes::{push_process, standing_lines};
+pub use crate::processes::{push_name, push_process, standing_lines};
 pub use crate::reason::{Reason, reason_law};
 pub use crate::stats::{stats_laws, stats_text};
 pub use crate::unlawful::find_reason;

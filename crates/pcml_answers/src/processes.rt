@@ -24,7 +24,8 @@ fn push_printed(out: &mut String, script: &Script, printed: &[Atom]) -> Result<(
     Ok(())
 }
 
-pub(crate) fn push_name(out: &mut String, script: &Script, thread: usize) -> Result<(), AllocError>
+/// Appends the name of a process.
+pub fn push_name(out: &mut String, script: &Script, thread: usize) -> Result<(), AllocError>
     requires { thread < length (script_of script.now).processes }
     ensures { OnOk result (Adds out.old out.new ((named (script_of script.now)).thread thread)) }
 {

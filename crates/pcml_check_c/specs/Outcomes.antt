@@ -11,10 +11,10 @@ use Rattle.reachable.specs.declared.stranded.AllStranded.{AllStranded}
 use Rattle.pcml_answers.specs.declared.need.NamesFault.{NamesFault}
 use Rattle.pcml_answers.specs.declared.need.NamesFault.TheVariants as names
 use Rattle.pcml_request.specs.declared.request.Wanted.{Wanted}
-use Rattle.pcml_answers.specs.Stranding.{AreLostIn, judged}
-use Rattle.pcml_answers.specs.Told.{AreFoundIn, NamesNeeded, finding, looks, outcomes_text}
-use Rattle.pcml_answers.specs.declared.finding.Finding.{Finding}
-use Rattle.pcml_answers.specs.declared.finding.Finding.TheVariants as findings
+use Rattle.pcml_outcomes.specs.Stranding.{AreLostIn, judged}
+use Rattle.pcml_outcomes.specs.Told.{AreFoundIn, NamesNeeded, finding, looks, outcomes_text}
+use Rattle.pcml_outcomes.specs.declared.finding.Finding.{Finding}
+use Rattle.pcml_outcomes.specs.declared.finding.Finding.TheVariants as findings
 use Rattle.pcml_texts.specs.Searching.{IsAskedOf, MisnamesAsked}
 use Rattle.pcml_check_c.specs.Names.{Wants, given}
 use Rattle.pcml_check_c.specs.declared.told.Code.{Code}

@@ -5,8 +5,8 @@ ghost use Rattle.std.specs.List.{zip};
 ghost use Rattle.std.specs.Option.{option_copied};
 ghost use Rattle.script.specs.Scripts.{script_of};
 ghost use Rattle.outcomes.specs.declared.asked.Told.{Told as WhichTold};
-ghost use Rattle.pcml_answers.specs.Stranding.{sought};
-ghost use Rattle.pcml_answers.specs.Told.{NamesNeeded};
+ghost use Rattle.pcml_outcomes.specs.Stranding.{sought};
+ghost use Rattle.pcml_outcomes.specs.Told.{NamesNeeded};
 ghost use Rattle.pcml_texts.specs.Searching.{IsAskedOf, MisnamesAsked};
 
 use outcomes::{Asked, Told};

@@ -15,7 +15,7 @@ use Rattle.pcml_request.specs.declared.request.Running.{Running}
 use Rattle.pcml_request.specs.declared.request.Search.{Search}
 use Rattle.pcml_request.specs.Requests.{all_rows}
 use Rattle.pcml_explain.specs.Topics as topics
-use Rattle.pcml_answers.specs.Left.{TellsLeft}
+use Rattle.pcml_outcomes.specs.Left.{TellsLeft}
 use Rattle.pcml_answers.specs.Needs.{MisnamesAny, Names}
 use Rattle.pcml_files.specs.Files.{Fits, IsTooLarge}
 use Rattle.pcml_files.specs.declared.source.SourceFault.{SourceFault}
@@ -50,10 +50,9 @@ use Rattle.journal_text.specs.Names.{named}
 use Rattle.outcomes.specs.declared.Outcomes.{Outcomes as Found}
 use Rattle.outcomes.specs.declared.asked.Asked.{Asked}
 use Rattle.outcomes.specs.Asking.{has_unended}
-use Rattle.reachable.specs.declared.stranded.AllStranded.{AllStranded}
-use Rattle.pcml_answers.specs.Stranding.{AreLostIn, judged}
-use Rattle.pcml_answers.specs.Told.{AreFoundIn, NamesNeeded, SpellsKept, bytes_of, finding, kept_run, looks, outcomes_text}
-use Rattle.pcml_answers.specs.declared.left.LeftText.{LeftText}
+use Rattle.pcml_outcomes.specs.Stranding.{AreLostIn, judged}
+use Rattle.pcml_outcomes.specs.Told.{AreFoundIn, NamesNeeded, SpellsKept, bytes_of, finding, kept_run, looks, outcomes_text}
+use Rattle.pcml_outcomes.specs.declared.left.LeftText.{LeftText}
 use Rattle.pcml_tool.specs.Searching.{FailsAsked, IsAskedBy, verdict_of}
 use Rattle.script_mistakes.specs.Short.{TellsWhyShort}
 use Rattle.script_mistakes.specs.Telling.{TellsWhyNot}

@@ -4,8 +4,8 @@ use Rattle.std.specs.Option.{option_copied}
 use Rattle.script.specs.Sources.{Script}
 use Rattle.outcomes.specs.declared.asked.Asked.{Asked}
 use Rattle.pcml_request.specs.declared.request.Search.{Search}
-use Rattle.pcml_answers.specs.declared.finding.Finding.{Finding}
-use Rattle.pcml_answers.specs.declared.finding.Finding.TheVariants.{Clear, Open, Stranded, Stuck}
+use Rattle.pcml_outcomes.specs.declared.finding.Finding.{Finding}
+use Rattle.pcml_outcomes.specs.declared.finding.Finding.TheVariants.{Clear, Open, Stranded, Stuck}
 use Rattle.pcml_texts.specs.Searching.{IsAskedOf, MisnamesAsked}
 use Rattle.pcml_tool.specs.declared.fault.Fault.{Fault}
 use Rattle.pcml_tool.specs.declared.fault.Fault.TheVariants as faults

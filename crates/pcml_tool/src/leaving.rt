@@ -4,7 +4,7 @@ ghost use Rattle.std.specs.Prelude.{◌≡◌, IfErr, IfOk, OnOk, false, is_some
 ghost use Rattle.std.specs.Option.{option_copied};
 ghost use Rattle.pcml_request.specs.declared.request.Request.TheVariants.{Left};
 ghost use Rattle.pcml_request.specs.Requests.{CanBeAnswered};
-ghost use Rattle.pcml_answers.specs.Told.{bytes_of};
+ghost use Rattle.pcml_outcomes.specs.Told.{bytes_of};
 ghost use Rattle.pcml_tool.specs.Command.{AnswersLeft, FailsLeft, IsOfKeeping, KeepsAsked};
 ghost use Rattle.pcml_tool.specs.Searching.{verdict_of};
 
@@ -13,8 +13,9 @@ use crate::fault::Fault;
 use crate::from_files::read_script;
 use crate::searching::verdict_of;
 use outcomes::Watch;
-use pcml_answers::{Finding, LeftText, left_text, named_processes};
+use pcml_answers::named_processes;
 use pcml_files::Source;
+use pcml_outcomes::{Finding, LeftText, left_text};
 use pcml_request::Leaving;
 use std::alloc::Global;
 

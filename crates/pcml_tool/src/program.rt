@@ -29,8 +29,9 @@ use crate::{
 };
 use journal_replay::End;
 use outcomes::{Watch, has_unended};
-use pcml_answers::{named_processes, outcomes_text};
+use pcml_answers::named_processes;
 use pcml_files::{MOST_BYTES, Source, emit};
+use pcml_outcomes::outcomes_text;
 use pcml_request::{Request, Running, Search, WordsFault, all_rows, read_words};
 use script::Script;
 use std::alloc::Global;

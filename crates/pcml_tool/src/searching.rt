@@ -3,16 +3,16 @@
 ghost use Rattle.std.specs.Prelude.{◌≡◌, IfErr, IfOk, OnOk, is_some, length};
 ghost use Rattle.std.specs.Option.{option_copied};
 ghost use Rattle.script.specs.Scripts.{script_of};
-ghost use Rattle.pcml_answers.specs.Stranding.{sought};
-ghost use Rattle.pcml_answers.specs.Told.{NamesNeeded, bytes_of};
+ghost use Rattle.pcml_outcomes.specs.Stranding.{sought};
+ghost use Rattle.pcml_outcomes.specs.Told.{NamesNeeded, bytes_of};
 ghost use Rattle.pcml_tool.specs.Command.{IsOfKeeping, KeepsAsked};
 ghost use Rattle.pcml_tool.specs.Searching.{FailsAsked, IsAskedBy, verdict_of};
 
 use crate::answer::{Advice, Answer, Behind, Verdict};
 use crate::fault::Fault;
 use outcomes::Asked;
-use pcml_answers::{Finding, OutcomesText};
 use pcml_files::Source;
+use pcml_outcomes::{Finding, OutcomesText};
 use pcml_request::Search;
 use script::Script;
 use std::alloc::Global;

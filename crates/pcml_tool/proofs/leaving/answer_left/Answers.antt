@@ -1,8 +1,8 @@
 use Rattle.std.proofs.Common.{List, Bool, ap, length, subst, ◌∙◌}
 use Rattle.std.specs.Option.{option_copied}
 use Rattle.script.specs.Scripts.{script_of}
-use Rattle.pcml_answers.specs.Left.{TellsLeft}
-use Rattle.pcml_answers.specs.Told.{bytes_of}
+use Rattle.pcml_outcomes.specs.Left.{TellsLeft}
+use Rattle.pcml_outcomes.specs.Told.{bytes_of}
 use Rattle.pcml_texts.proofs.Columns.{each-named}
 use Rattle.pcml_tool.proofs.Keeping.{kept_on}
 use Rattle.pcml_tool.proofs.leaving.answer_left.Goals as goal

@@ -2,8 +2,8 @@ use Rattle.std.proofs.Common.{ℕ, Option, ap, subst, ◌∙◌}
 use Rattle.std.specs.Option.{option_copied}
 use Rattle.std.specs.Prelude.{is_some}
 use Rattle.script.specs.Scripts.{script_of}
-use Rattle.pcml_answers.specs.declared.finding.Finding.{Finding}
-use Rattle.pcml_answers.specs.Told.{TellsOutcomes, bytes_of}
+use Rattle.pcml_outcomes.specs.declared.finding.Finding.{Finding}
+use Rattle.pcml_outcomes.specs.Told.{TellsOutcomes, bytes_of}
 use Rattle.pcml_tool.specs.Searching.{verdict_of}
 use Rattle.pcml_tool.proofs.Keeping.{kept_on}
 use Rattle.pcml_tool.proofs.program.answer_search.Goals as goal

@@ -1,7 +1,0 @@
-use Rattle.std.proofs.Common.{◌≡◌, false, take}
-use Rattle.std.specs.List.{list_any}
-use Rattle.pcml_answers.specs.Told.{has_stuck}
-use Rattle.pcml_answers.proofs.finding.any_stuck.Given as goal
-
-abbrev pub invariant-loop-outcome : goal.invariant-loop-outcome
-invariant-loop-outcome l = list_any (has_stuck l.told) (take l.outcome-index l.outcomes) ≡ false

@@ -1,0 +1,7 @@
+pub mod Showing
+pub mod Asking
+pub mod Marking
+pub mod Clearing
+pub mod Endings
+pub mod Leaving
+pub mod Forever

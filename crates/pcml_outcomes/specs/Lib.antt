@@ -1,0 +1,4 @@
+pub mod Left
+pub mod Stranding
+pub mod Told
+pub mod Forever
