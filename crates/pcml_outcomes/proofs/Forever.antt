@@ -26,6 +26,8 @@ use Rattle.outcomes.specs.declared.Outcomes.{Outcomes}
 use Rattle.outcomes.specs.declared.asked.Asked.{Asked}
 use Rattle.outcomes.specs.declared.asked.Told.TheVariants.{Lacking, Waiting as TheWaiting}
 use Rattle.outcomes.proofs.Finishing.{finished-ended}
+use Rattle.reachable.specs.declared.stranded.AllStranded.{AllStranded}
+use Rattle.reachable.specs.declared.stranded.Stranded.{Stranded as OneStranded}
 use Rattle.reachable.proofs.Stranding.{never-stranded, never-waits, stranded-at-rest}
 use Rattle.pcml_outcomes.specs.declared.finding.Finding.{Finding}
 use Rattle.pcml_outcomes.specs.declared.finding.Finding.TheVariants.{Clear, Open, Stranded, Stuck}

@@ -7,6 +7,7 @@ use Rattle.journal_replay.specs.Runs.{IsRun, config_of}
 use Rattle.outcomes.specs.declared.asked.Asked.{Asked}
 use Rattle.outcomes.specs.declared.asked.Told.TheVariants.{Lacking, Waiting as TheWaiting}
 use Rattle.outcomes.specs.declared.Outcomes.{Outcomes}
+use Rattle.reachable.specs.Stranded.{IsLost, IsStranded}
 use Rattle.reachable.specs.declared.stranded.AllStranded.{AllStranded}
 use Rattle.pcml_outcomes.specs.declared.finding.Finding.TheVariants.{Clear, Stranded, Stuck}
 use Rattle.pcml_outcomes.specs.Stranding.{AreLostIn, judged}

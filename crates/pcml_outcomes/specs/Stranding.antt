@@ -12,6 +12,8 @@ use Rattle.outcomes.specs.declared.Extent.TheVariants.{Cut, Whole}
 use Rattle.outcomes.specs.declared.asked.Asked.{Asked}
 use Rattle.outcomes.specs.declared.asked.Told.{Told}
 use Rattle.outcomes.specs.declared.asked.Told.TheVariants.{Each, Lacking, Waiting as TheWaiting}
+use Rattle.reachable.specs.Left.{AreSeen}
+use Rattle.reachable.specs.Stranded.{AreInTurn, AreStrandedBehind, TellAllLost}
 use Rattle.reachable.specs.declared.stranded.AllStranded.{AllStranded}
 use Rattle.reachable.specs.declared.stranded.Stranded.{Stranded}
 use Rattle.pcml_outcomes.specs.declared.finding.Finding.{Finding}

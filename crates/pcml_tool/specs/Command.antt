@@ -50,6 +50,7 @@ use Rattle.journal_text.specs.Names.{named}
 use Rattle.outcomes.specs.declared.Outcomes.{Outcomes as Found}
 use Rattle.outcomes.specs.declared.asked.Asked.{Asked}
 use Rattle.outcomes.specs.Asking.{has_unended}
+use Rattle.reachable.specs.declared.stranded.AllStranded.{AllStranded}
 use Rattle.pcml_outcomes.specs.Stranding.{AreLostIn, judged}
 use Rattle.pcml_outcomes.specs.Told.{AreFoundIn, NamesNeeded, SpellsKept, bytes_of, finding, kept_run, looks, outcomes_text}
 use Rattle.pcml_outcomes.specs.declared.left.LeftText.{LeftText}
