@@ -5,3 +5,4 @@ pub mod Clearing
 pub mod Endings
 pub mod Leaving
 pub mod Forever
+mod Faulting

@@ -12,7 +12,7 @@ use Rattle.reachable.specs.declared.left.LeftBehind.{LeftBehind}
 use Rattle.pcml_outcomes.specs.Told.{SpellsKept, bytes_of}
 use Rattle.pcml_outcomes.specs.declared.finding.Finding.{Finding}
 use Rattle.pcml_outcomes.specs.declared.finding.Finding.TheVariants.{Clear, Open, Stuck}
-use Rattle.pcml_outcomes.specs.declared.left.LeftText.{LeftText}
+use Rattle.pcml_outcomes.specs.declared.sought.SoughtText.{SoughtText}
 
 -- who is left behind, or that nobody is, or that it is not known; and how many states were seen
 abbrev pub left_line : Naming → Left → ℕ → List ℕ
@@ -38,7 +38,7 @@ pub record AreLeft (s : Script) (limit : ℕ) (marks : List Bool) (found : AllLe
   pub cut : found.left ≡ Unknown → found.visited ≡ limit
   pub few : found.visited ≤ limit
 
-pub record TellsLeft (s : Script) (limit : ℕ) (marks : List Bool) (t : LeftText) : Type 0 where
+pub record TellsLeft (s : Script) (limit : ℕ) (marks : List Bool) (t : SoughtText) : Type 0 where
   pub found : AllLeft
   pub are : AreLeft s limit marks found
   pub is : t.text.items ≡ left_line (named s) found.left found.visited

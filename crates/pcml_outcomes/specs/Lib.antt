@@ -2,3 +2,4 @@ pub mod Left
 pub mod Stranding
 pub mod Told
 pub mod Forever
+pub mod Faults

@@ -14,23 +14,13 @@ ghost use Rattle.pcml_outcomes.specs.Left.{AreLeft, TellsLeft, left_finding, lef
 
 use crate::asked::journal_of;
 use crate::finding::Finding;
+use crate::sought::SoughtText;
 use outcomes::Watch;
 use pcml_answers::push_name;
 use protocol_values::Commit;
 use reachable::{AllLeft, Left, find_left};
 use script::Script;
 use std::alloc::{AllocError, Global};
-
-/// What is told of who is left behind.
-#[derive(Debug, Drop)]
-pub struct LeftText {
-    /// One line: who it is, or that nobody is, or that it is not known.
-    pub text: Vec<u8>,
-    /// The journal that leads to where it never ends, as text, where one is left behind.
-    pub journal: Option<Vec<u8>>,
-    /// Stuck where one is left behind, clear where nobody is.
-    pub finding: Finding,
-}
 
 /// Appends who is left behind, and how many states were seen.
 fn push_left(out: &mut String, script: &Script, found: &AllLeft) -> Result<(), AllocError>
@@ -95,7 +85,7 @@ pub fn left_text<W: Watch>(
     limit: usize,
     marks: &[bool],
     watch: &mut W,
-) -> Result<LeftText, AllocError>
+) -> Result<SoughtText, AllocError>
     requires limit { 1 ≤ limit }
     requires most { limit ≤ most_rows }
     requires marks { length marks.now ≡ length (script_of script.now).processes }
@@ -105,7 +95,7 @@ pub fn left_text<W: Watch>(
     let mut text = String::new(alloc);
     push_left(&mut text, script, &found)?;
     let journal = journal_of(alloc, script, left_run(&found.left))?;
-    Ok(LeftText {
+    Ok(SoughtText {
         text: text.into_bytes(),
         journal,
         finding: left_finding(&found.left),

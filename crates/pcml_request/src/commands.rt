@@ -6,7 +6,7 @@ use crate::arguments::{
     stamp_argument,
 };
 use crate::request::{
-    Drawing, Form, Leaving, OfJournal, Question, Request, Running, Search, Wanted,
+    Drawing, Form, OfJournal, Question, Request, Running, Search, Seeking, Sought, Wanted,
 };
 use clap::{Arg, ArgAction, ArgMatches, Command, value_parser};
 use pcml_explain::{Topic, Word};
@@ -179,21 +179,35 @@ fn replay_command<'a>(alloc: Global) -> Result<Command<'a>, AllocError> {
         .args(arguments)
 }
 
-/// It asks for something else than outcomes.
-fn left_argument<'a>(alloc: Global) -> Result<Arg<'a>, AllocError> {
-    Arg::new(alloc, "left")
-        .long("left")
-        .action(ArgAction::Set)
-        .value_name("NAMES")
-        .help(
-            "Processes, with commas between, or all: prints which of them can come to never end any more",
-        )
+/// An argument that asks for something else than outcomes.
+fn alone<'a>(argument: Arg<'a>) -> Result<Arg<'a>, AllocError> {
+    argument
         .conflicts_with("rows")?
         .conflicts_with("waiting")?
         .conflicts_with("need")?
         .conflicts_with("only")?
         .conflicts_with("first")?
         .conflicts_with("of")
+}
+
+fn left_argument<'a>(alloc: Global) -> Result<Arg<'a>, AllocError> {
+    let left = Arg::new(alloc, "left")
+        .long("left")
+        .action(ArgAction::Set)
+        .value_name("NAMES")
+        .help(
+            "Processes, with commas between, or all: prints which of them can come to never end any more",
+        );
+    alone(left)
+}
+
+fn faults_argument<'a>(alloc: Global) -> Result<Arg<'a>, AllocError> {
+    let faults = flag_argument(
+        alloc,
+        "faults",
+        "Prints which process some run leads to a fault, whether the run ends or not",
+    );
+    alone(faults)?.conflicts_with("left")
 }
 
 fn outcomes_command<'a>(alloc: Global) -> Result<Command<'a>, AllocError> {
@@ -213,6 +227,7 @@ fn outcomes_command<'a>(alloc: Global) -> Result<Command<'a>, AllocError> {
             "Processes that have to end, with commas between, or all: prints only what keeps one from it"
         ),
         left_argument(alloc)?,
+        faults_argument(alloc)?,
         only_argument(
             alloc,
             "Processes that are told, with commas between, or all: the others make no other outcome"
@@ -235,13 +250,22 @@ fn wanted_of<'a>(outcomes: &ArgMatches<'a>) -> Wanted<'a> {
     }
 }
 
+/// What the words behind `outcomes` seek in place of outcomes.
+fn sought_of<'a>(outcomes: &ArgMatches<'a>) -> Option<Sought<'a>> {
+    match outcomes.get_str("left") {
+        Some(names) => Some(Sought::Left(names)),
+        None if outcomes.get_flag("faults") => Some(Sought::Fault),
+        None => None,
+    }
+}
+
 /// The request of `outcomes`, by the words behind it.
 fn outcomes_request<'a>(outcomes: &ArgMatches<'a>) -> Option<Request<'a>> {
-    if let Some(names) = outcomes.get_str("left") {
-        return Some(Request::Left(Leaving {
+    if let Some(sought) = sought_of(outcomes) {
+        return Some(Request::Seek(Seeking {
             script: outcomes.get_str("file")?,
             limit: outcomes.get_one("limit")?,
-            names,
+            sought,
             journal: outcomes.get_str("journal"),
         }));
     }

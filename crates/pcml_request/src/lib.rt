@@ -9,6 +9,6 @@ mod words;
 
 pub use crate::fault::WordsFault;
 pub use crate::request::{
-    Drawing, Form, Leaving, OfJournal, Question, Request, Running, Search, Wanted, all_rows,
+    Drawing, Form, OfJournal, Question, Request, Running, Search, Seeking, Sought, Wanted, all_rows,
 };
 pub use crate::words::read_words;

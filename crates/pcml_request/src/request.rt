@@ -32,14 +32,21 @@ pub struct Search<'a> {
     pub of: Option<u32>,
 }
 
-/// Who can never end any more is to be told, of the processes of these names (separated by commas, or `all`), in runs of any
-/// length of the script in a file, where at most so many states are seen. The journal that leads there goes to a file,
-/// where one is named.
+/// What is sought in all runs: a process of these names (separated by commas, or `all`) that can never end any more, or one
+/// that has faulted.
 #[derive(Clone, Copy, Debug)]
-pub struct Leaving<'a> {
+pub enum Sought<'a> {
+    Left(&'a str),
+    Fault,
+}
+
+/// What is sought in runs of any length of the script in a file, whether they end or not, where at most so many states
+/// are seen. The journal that leads there goes to a file, where one is named.
+#[derive(Clone, Copy, Debug)]
+pub struct Seeking<'a> {
     pub script: &'a str,
     pub limit: u32,
-    pub names: &'a str,
+    pub sought: Sought<'a>,
     pub journal: Option<&'a str>,
 }
 
@@ -117,8 +124,8 @@ pub enum Request<'a> {
     WhyShort(&'a str),
     /// What a script can come to.
     Outcomes(Search<'a>),
-    /// Who is left behind in it.
-    Left(Leaving<'a>),
+    /// What some run of it leads to.
+    Seek(Seeking<'a>),
     /// What a fault or a word means, or the manual page.
     Explain(Topic),
     /// Which version of the program this is.

@@ -5,7 +5,7 @@ ghost use Rattle.pcml_request.specs.Requests.{CanBeAnswered};
 
 use crate::commands::{command_line, request_of};
 use crate::fault::WordsFault;
-use crate::request::{Drawing, Leaving, OfJournal, Question, Request, Running, Search};
+use crate::request::{Drawing, OfJournal, Question, Request, Running, Search, Seeking};
 use clap::error::ErrorKind;
 use clap::{ArgMatches, Error};
 use pcml_explain::explanation;
@@ -34,10 +34,10 @@ fn range_objection(asked: &Request<'_>) -> Option<&'static str>
                 ..
             },
         ) if from > to => { Some("no stamp is from the one to the other") }
-        Request::Outcomes(Search { limit: 0, .. }) | Request::Left(Leaving { limit: 0, .. }) => {
+        Request::Outcomes(Search { limit: 0, .. }) | Request::Seek(Seeking { limit: 0, .. }) => {
             Some("at least one configuration is seen")
         }
-        Request::Outcomes(Search { limit, .. }) | Request::Left(Leaving { limit, .. })
+        Request::Outcomes(Search { limit, .. }) | Request::Seek(Seeking { limit, .. })
             if *limit > 4194304 => { Some("at most 4194304 configurations are seen") }
         Request::Outcomes(Search { of: Some(0), .. }) => Some("the outcomes are numbered from 1"),
         _ => None,
@@ -66,8 +66,8 @@ fn file_objection(asked: &Request<'_>) -> Option<&'static str> {
                 ..
             },
         )
-        | Request::Left(
-            Leaving {
+        | Request::Seek(
+            Seeking {
                 journal: Some("-"),
                 ..
             },
