@@ -4,17 +4,20 @@ use Rattle.std.specs.Io.KnownBytes.{Appends}
 use Rattle.std.specs.Global.{Vec}
 use Rattle.std.specs.Option.{option_copied, option_map}
 use Rattle.pcml_request.specs.declared.request.Request.{Request}
-use Rattle.pcml_request.specs.declared.request.Request.TheVariants.{Left, Meet, Outcomes, Play, Check, Explain, Run, Version, WhyScript, WhyShort}
+use Rattle.pcml_request.specs.declared.request.Request.TheVariants.{Meet, Outcomes, Play, Check, Explain, Run, Seek, Version, WhyScript, WhyShort}
 use Rattle.pcml_request.specs.declared.request.Request.TheVariants as request
 use Rattle.pcml_request.specs.declared.request.Drawing.{Drawing}
-use Rattle.pcml_request.specs.declared.request.Leaving.{Leaving}
 use Rattle.pcml_request.specs.declared.request.OfJournal.{OfJournal}
 use Rattle.pcml_request.specs.declared.request.Question.{Question}
 use Rattle.pcml_request.specs.declared.request.Question.TheVariants as question
 use Rattle.pcml_request.specs.declared.request.Running.{Running}
 use Rattle.pcml_request.specs.declared.request.Search.{Search}
+use Rattle.pcml_request.specs.declared.request.Seeking.{Seeking}
+use Rattle.pcml_request.specs.declared.request.Sought.{Sought}
+use Rattle.pcml_request.specs.declared.request.Sought.TheVariants as sought
 use Rattle.pcml_request.specs.Requests.{all_rows}
 use Rattle.pcml_explain.specs.Topics as topics
+use Rattle.pcml_outcomes.specs.Faults.{TellsFaults}
 use Rattle.pcml_outcomes.specs.Left.{TellsLeft}
 use Rattle.pcml_answers.specs.Needs.{MisnamesAny, Names}
 use Rattle.pcml_files.specs.Files.{Fits, IsTooLarge}
@@ -53,7 +56,7 @@ use Rattle.outcomes.specs.Asking.{has_unended}
 use Rattle.reachable.specs.declared.stranded.AllStranded.{AllStranded}
 use Rattle.pcml_outcomes.specs.Stranding.{AreLostIn, judged}
 use Rattle.pcml_outcomes.specs.Told.{AreFoundIn, NamesNeeded, SpellsKept, bytes_of, finding, kept_run, looks, outcomes_text}
-use Rattle.pcml_outcomes.specs.declared.left.LeftText.{LeftText}
+use Rattle.pcml_outcomes.specs.declared.sought.SoughtText.{SoughtText}
 use Rattle.pcml_tool.specs.Searching.{FailsAsked, IsAskedBy, verdict_of}
 use Rattle.script_mistakes.specs.Short.{TellsWhyShort}
 use Rattle.script_mistakes.specs.Telling.{TellsWhyNot}
@@ -158,17 +161,20 @@ pub record AnswersOutcomes (Holds Keeps : Files) (search : Search) (verdict : Ve
   pub so : verdict ≡ verdict_of (judged asked.told (finding asked found) stranded) (is_some search.of) (is_some lines)
   pub is : text ≡ outcomes_text (named s) search.rows asked found stranded
 
--- the text of who is left behind of the processes that are named, and the journal that leads there, in a file where one is named
-pub record AnswersLeft (Holds Keeps : Files) (leaving : Leaving) (verdict : Verdict) (text : List ℕ) : Type 0 where
+-- what is told of what is sought: who of the processes that are named is left behind, or who faults
+abbrev pub TellsSought : Script → ℕ → Sought → SoughtText → Type 0
+TellsSought s limit (sought.Left names) told = (marks : List Bool) × Names s names.now marks × TellsLeft s limit marks told
+TellsSought s limit sought.Fault told = TellsFaults s limit told
+
+-- its text, and the journal that leads there, in a file where one is named
+pub record AnswersSought (Holds Keeps : Files) (seeking : Seeking) (verdict : Verdict) (text : List ℕ) : Type 0 where
   pub source : List ℕ
-  pub holds : Holds leaving.script.now source
+  pub holds : Holds seeking.script.now source
   pub s : Script
   pub spells : Spells source s
-  pub marks : List Bool
-  pub names : Names s leaving.names.now marks
-  pub told : LeftText
-  pub tells : TellsLeft s leaving.limit marks told
-  pub kept : KeepsAsked Holds Keeps (option_copied leaving.journal) (bytes_of told.journal)
+  pub told : SoughtText
+  pub tells : TellsSought s seeking.limit seeking.sought told
+  pub kept : KeepsAsked Holds Keeps (option_copied seeking.journal) (bytes_of told.journal)
   pub so : verdict ≡ verdict_of told.finding false (is_some (bytes_of told.journal))
   pub is : text ≡ told.text.items
 
@@ -213,14 +219,14 @@ pub record AnswersRun (Holds Keeps : Files) (asked : Running) (verdict : Verdict
   pub is : text ≡ printed asked.quiet lines rest ++ why
 
 -- The line of the one pair (or none), what comes of the schedule, the script or the run that is asked for, what is asked of a script and
--- a journal, why a text is no script, what the script can come to or who is left behind in it, what a fault means, or the version. Where the journal of a run is to
+-- a journal, why a text is no script, what the script can come to or what some run of it leads to, what a fault means, or the version. Where the journal of a run is to
 -- go to a file, the file keeps its lines at the end.
 abbrev pub Answers : Files → Files → Request → Verdict → List ℕ → Type 0
 Answers Holds Keeps (request.OfJournal asked) verdict text = AnswersJournal Holds asked verdict text
 Answers Holds Keeps (WhyScript name) verdict text = AnswersWhyScript Holds name.now verdict text
 Answers Holds Keeps (WhyShort name) verdict text = AnswersWhyShort Holds name.now verdict text
 Answers Holds Keeps (Outcomes search) verdict text = AnswersOutcomes Holds Keeps search verdict text
-Answers Holds Keeps (Left leaving) verdict text = AnswersLeft Holds Keeps leaving verdict text
+Answers Holds Keeps (Seek seeking) verdict text = AnswersSought Holds Keeps seeking verdict text
 Answers Holds Keeps (Meet value) Done text = PrintsMeeting value text
 Answers Holds Keeps (Play name) Done text = OfSchedule Holds name.now (λ bytes. IsPlayed bytes text)
 Answers Holds Keeps (Check name) Done text = (bytes : List ℕ) × Holds name.now bytes × IsChecked bytes text
@@ -338,13 +344,19 @@ FailsOutcomes Holds search (faults.Script fault) = FailsScript Holds search.scri
 FailsOutcomes Holds search (faults.Names fault) = OfScript Holds search.script.now (λ s. FailsAsked s search (faults.Names fault))
 FailsOutcomes Holds search fault = ⊥
 
--- what a fault says where it is asked who is left behind: that of the script, of a name, or that the journal's file was not written
-abbrev pub FailsLeft : Files → Leaving → Fault → Type 0
-FailsLeft Holds leaving faults.Memory = ⊤
-FailsLeft Holds leaving (faults.File fault) = FailsFile leaving.journal fault
-FailsLeft Holds leaving (faults.Script fault) = FailsScript Holds leaving.script.now fault
-FailsLeft Holds leaving (faults.Names fault) = OfScript Holds leaving.script.now (λ s. FailsNamed s (Some leaving.names.now) (faults.Names fault))
-FailsLeft Holds leaving fault = ⊥
+-- what a fault says of what is sought in a script: that of a name
+abbrev pub FailsSoughtIn : Script → Sought → Fault → Type 0
+FailsSoughtIn s sought faults.Memory = ⊤
+FailsSoughtIn s (sought.Left names) (faults.Names fault) = FailsNamed s (Some names.now) (faults.Names fault)
+FailsSoughtIn s sought fault = ⊥
+
+-- what a fault says where something is sought: that of the script, of a name, or that the journal's file was not written
+abbrev pub FailsSought : Files → Seeking → Fault → Type 0
+FailsSought Holds seeking faults.Memory = ⊤
+FailsSought Holds seeking (faults.File fault) = FailsFile seeking.journal fault
+FailsSought Holds seeking (faults.Script fault) = FailsScript Holds seeking.script.now fault
+FailsSought Holds seeking (faults.Names fault) = OfScript Holds seeking.script.now (λ s. FailsSoughtIn s seeking.sought (faults.Names fault))
+FailsSought Holds seeking fault = ⊥
 
 -- what a fault says of the request
 abbrev pub Fails : Files → Request → Fault → Type 0
@@ -356,7 +368,7 @@ Fails Holds (request.OfJournal asked) fault = FailsJournal Holds asked fault
 Fails Holds (WhyScript name) fault = FailsWhyScript fault
 Fails Holds (WhyShort name) fault = FailsWhyScript fault
 Fails Holds (Outcomes search) fault = FailsOutcomes Holds search fault
-Fails Holds (Left leaving) fault = FailsLeft Holds leaving fault
+Fails Holds (Seek seeking) fault = FailsSought Holds seeking fault
 Fails Holds (Run asked) fault = FailsRunning Holds asked fault
 Fails Holds Version fault = fault ≡ faults.Memory
 

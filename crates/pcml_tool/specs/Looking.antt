@@ -2,14 +2,14 @@
 use Rattle.std.specs.Prelude.{◌≡◌, ℕ, List, Option, None, Some}
 use Rattle.std.specs.Option.{option_copied}
 use Rattle.pcml_request.specs.declared.request.Request.{Request}
-use Rattle.pcml_request.specs.declared.request.Request.TheVariants.{Check, Left, OfJournal, Outcomes, Play, Run, WhyScript, WhyShort}
+use Rattle.pcml_request.specs.declared.request.Request.TheVariants.{Check, OfJournal, Outcomes, Play, Run, Seek, WhyScript, WhyShort}
 use Rattle.pcml_tool.specs.declared.looking.FilesRead.{FilesRead}
 
 -- the file of a script whose first fault it does not tell itself
 abbrev pub script_read : Request → Option (List ℕ)
 script_read (Run asked) = Some asked.script.now
 script_read (Outcomes search) = Some search.script.now
-script_read (Left leaving) = Some leaving.script.now
+script_read (Seek seeking) = Some seeking.script.now
 script_read (Check script) = Some script.now
 script_read (OfJournal asked) = Some asked.script.now
 script_read asked = None

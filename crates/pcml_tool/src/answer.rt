@@ -11,7 +11,7 @@ pub(crate) enum Verdict {
     /// The text that was to be a script is none; or what was asked of a script's outcomes is not so, or not known; or
     /// the journal of an outcome was to be kept that is not there.
     Denied,
-    /// A process that had to end has not, or does not in some outcome, or is left behind.
+    /// A process that had to end has not, or does not in some outcome, or is left behind; or one has faulted.
     Lacking,
 }
 

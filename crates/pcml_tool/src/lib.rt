@@ -8,13 +8,13 @@ mod answer;
 mod explain;
 mod fault;
 mod from_files;
-mod leaving;
 mod looking;
 mod meeting;
 mod play;
 mod program;
 mod run;
 mod searching;
+mod seeking;
 mod version;
 
 pub use crate::explain::explain_text;

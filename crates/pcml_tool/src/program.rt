@@ -22,8 +22,8 @@ use crate::fault::Fault;
 use crate::from_files::{
     answer_journal, check_file, play_file, read_script, read_source, why_file, why_short_file,
 };
-use crate::leaving::answer_left;
 use crate::searching::{asked_of, keep_outcome};
+use crate::seeking::answer_sought;
 use crate::{
     RunText, explain_text, meet_text, run_parts, run_seasons_parts, version_text, why_standing,
 };
@@ -225,7 +225,7 @@ fn answer<R: Threads + Wait + Sync, S: Source, W: Watch>(
     match asked {
         Request::Run(asked) => answer_run(rt, alloc, asked, source),
         Request::Outcomes(search) => answer_search(alloc, search, source, watch),
-        Request::Left(leaving) => answer_left(alloc, leaving, source, watch),
+        Request::Seek(seeking) => answer_sought(alloc, seeking, source, watch),
         Request::OfJournal(asked) => answer_journal(alloc, asked, source),
         Request::WhyScript(name) => why_file(alloc, source, name),
         Request::WhyShort(name) => why_short_file(alloc, source, name),
@@ -288,7 +288,7 @@ fn respond<R: Threads + Wait + Sync, S: Source, O: Write, E: Write, W: Watch>(
 /// Does what the words behind the program's name ask for, and answers the status: 0, or 1 after a
 /// fault, for a journal that is no run, where it is told why a text is no script, or where what was asked of a script's
 /// outcomes is not so or not known, 2 after words that are not understood, after a name that no process has and after a
-/// wish for help, or 3 where a process that had to end has not, or does not in some outcome, or is left behind. A fault is
+/// wish for help, or 3 where a process that had to end has not, or does not in some outcome, or is left behind, or one has faulted. A fault is
 /// a line on the error stream; whether that stream takes it changes nothing. Who watches is told how far a search is.
 pub fn command<R: Threads + Wait + Sync, S: Source, O: Write, E: Write, W: Watch>(
     rt: &R,
