@@ -20,7 +20,7 @@ _pcml_options() {
     why) echo --rows --seasons --short --help ;;
     chart) echo --rows --seasons --from --to --only --as --help ;;
     next) echo --rows --help ;;
-    outcomes) echo --rows --limit --waiting --need --left --only --first --journal --of --help ;;
+    outcomes) echo --rows --limit --waiting --need --left --faults --only --first --journal --of --help ;;
     stats) echo --rows --seasons --help ;;
     *) echo --help ;;
   esac

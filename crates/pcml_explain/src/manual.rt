@@ -20,6 +20,7 @@ SYNOPSIS
        pcml outcomes FILE [--rows G] [--limit C] [--waiting] [--need NAMES]
        [--only NAMES] [--first] [--journal TO [--of K]]
        pcml outcomes FILE --left NAMES [--limit C] [--journal TO]
+       pcml outcomes FILE --faults [--limit C] [--journal TO]
        pcml check FILE
        pcml play FILE
        pcml stats FILE JOURNAL [--rows G] [--seasons K]
@@ -306,6 +307,15 @@ OPTIONS
               option, or fewer. It goes together with --limit and --journal
               alone.
 
+       --faults
+              Tells of outcomes nothing but which process faults: some run
+              leads to where it has, whether the run ends or goes on for
+              ever.
+
+              The line fault NAME states V tells it, with status 3: by the
+              fewest commits, of several there the first.  none, unknown,
+              --limit and --journal are as with --left.
+
        -h, --help
               Prints the help.
 
@@ -378,8 +388,8 @@ EXIT STATUS
               that on standard output; or outcomes of which one leaves a
               process waiting or spent, or beside which one waits for ever,
               or of which not all is known, with --waiting or --need, or by
-              --left it is not known who is left behind, or of which none has
-              the number of --of.  Where standard error is a terminal, the
+              --left or --faults it is not known, or of which none has the
+              number of --of.  Where standard error is a terminal, the
               system's reason why a file cannot be read stands behind a
               fault, or what why FILE tells of a text that is no script.
 
@@ -389,7 +399,8 @@ EXIT STATUS
 
        3      A process that --need names has not ended, in the run or in
               some outcome, or may be stranded, or one that --left names is
-              left behind: all is on standard output.
+              left behind, or with --faults one faults: all is on standard
+              output.
 
        70     The script ./pcml of the sources has no program to run and
               cannot answer without, or a check of an unproved build found
