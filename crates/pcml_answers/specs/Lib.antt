@@ -7,3 +7,4 @@ pub mod Telling
 pub mod Texts
 pub mod Standings
 pub mod Coming
+pub mod Prints

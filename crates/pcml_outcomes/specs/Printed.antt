@@ -1,0 +1,48 @@
+-- What is told of whether a process prints a value.
+use Rattle.std.specs.Prelude.{◌≡◌, ◌≤◌, ℕ, List, ◌++◌, codes, Option, None, Some}
+use Rattle.std.specs.Fmt.{decimal}
+use Rattle.std.specs.Global.{Vec}
+use Rattle.protocol_values.specs.declared.Commit.{Commit}
+use Rattle.script.specs.Sources.{Script}
+use Rattle.journal_text.specs.Names.{Naming, named}
+use Rattle.journal_text.specs.Texts.{atom_text}
+use Rattle.reachable.specs.Printed.{IsPrintedBehind, NeverPrints}
+use Rattle.reachable.specs.declared.printed.AllPrinted.{AllPrinted}
+use Rattle.reachable.specs.declared.printed.Printed.{Printed}
+use Rattle.reachable.specs.declared.printed.Printed.TheVariants.{Behind, Never, Unknown}
+use Rattle.pcml_answers.specs.declared.prints.Print.{Print}
+use Rattle.pcml_outcomes.specs.Told.{SpellsKept, bytes_of}
+use Rattle.pcml_outcomes.specs.declared.finding.Finding.{Finding}
+use Rattle.pcml_outcomes.specs.declared.finding.Finding.TheVariants.{Clear, Open, Stuck}
+use Rattle.pcml_outcomes.specs.declared.sought.SoughtText.{SoughtText}
+
+-- that the process prints the value, or never does, or that it is not known that it does; and how many states were seen
+abbrev pub printed_line : Naming → Print → Printed → ℕ → List ℕ
+printed_line names print (Behind journal) visited = codes "printed " ++ names.thread print.process ++ codes " " ++ atom_text names print.value ++ codes " states " ++ decimal visited ++ codes "\n"
+printed_line names print Never visited = codes "never " ++ names.thread print.process ++ codes " " ++ atom_text names print.value ++ codes " states " ++ decimal visited ++ codes " all\n"
+printed_line names print Unknown visited = codes "never " ++ names.thread print.process ++ codes " " ++ atom_text names print.value ++ codes " states " ++ decimal visited ++ codes " cut\n"
+
+-- the run to where it has
+abbrev pub printed_run : Printed → Option (List Commit)
+printed_run (Behind journal) = Some journal.items
+printed_run printed = None
+
+abbrev pub printed_finding : Printed → Finding
+printed_finding (Behind journal) = Stuck
+printed_finding Never = Clear
+printed_finding Unknown = Open
+
+-- Where it is said that the process prints the value, it has where the run leads. Where it never does, no run leads to where it has.
+-- Else as many states were seen as may be.
+pub record IsPrinted (s : Script) (limit : ℕ) (print : Print) (found : AllPrinted) : Type 0 where
+  pub told : (journal : Vec Commit) → found.printed ≡ Behind journal → IsPrintedBehind s.processes print.process print.value journal.items
+  pub never : found.printed ≡ Never → NeverPrints s.processes print.process print.value
+  pub cut : found.printed ≡ Unknown → found.visited ≡ limit
+  pub few : found.visited ≤ limit
+
+pub record TellsPrinted (s : Script) (limit : ℕ) (print : Print) (t : SoughtText) : Type 0 where
+  pub found : AllPrinted
+  pub are : IsPrinted s limit print found
+  pub is : t.text.items ≡ printed_line (named s) print found.printed found.visited
+  pub kept : SpellsKept s (printed_run found.printed) (bytes_of t.journal)
+  pub so : t.finding ≡ printed_finding found.printed
