@@ -7,4 +7,4 @@ use Rattle.pcml_tool.proofs.seeking.told_of.Goals as goal
 pub left_text-requires-clause-marks : goal.left_text-requires-clause-marks
 left_text-requires-clause-marks g c =
     let s = script_of c.args.script.now in
-    ap (λ (m : List Bool). length m) (c.deref.ensures.value ∙ c.in_ok-marks.ensures.named.1) ∙ each-named s c.in-Left.names.now
+    ap (λ (m : List Bool). length m) (c.deref.ensures.value ∙ c.in_ok-marks-in-Left.ensures.named.1) ∙ each-named s c.in-Left.names.now
