@@ -85,11 +85,7 @@ fn push_print(out: &mut String, script: &Script, print: Print) -> Result<(), All
 }
 
 /// The process and the value that `NAME=VALUE` names, with the value as `print` writes it; none where it names none.
-pub fn named_print(
-    alloc: Global,
-    script: &Script,
-    text: &str,
-) -> Result<Option<Print>, AllocError>
+pub fn named_print(alloc: Global, script: &Script, text: &str) -> Result<Option<Print>, AllocError>
     ensures { IfOk result (λ found. IfSome found (NamesPrint (script_of script.now) text.now)) }
 {
     let Some(print) = candidate(script, text) else {
