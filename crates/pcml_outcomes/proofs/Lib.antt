@@ -6,3 +6,4 @@ pub mod Endings
 pub mod Leaving
 pub mod Forever
 mod Faulting
+mod Printing

@@ -3,3 +3,4 @@ pub mod Stranding
 pub mod Told
 pub mod Forever
 pub mod Faults
+pub mod Printed

@@ -1,10 +1,10 @@
-//! What a script can come to, who is stranded, who is left behind and who faults, each as text.
+//! What a script can come to, who is stranded, who is left behind, who faults and what is printed, each as text.
 //!
 //! - `outcomes_text`: all that a script can come to, with the journal that leads to one outcome, or comes round
 //!   (`listing.rt`). What is told is a function of what was found (`specs/Told.antt`).
 //! - `outcomes_laws`: what that means of all runs.
-//! - `left_text`, `fault_text`: who can never end any more, and who faults, with the journal that leads there
-//!   (`left.rt`, `faults.rt`).
+//! - `left_text`, `fault_text`, `printed_text`: who can never end any more, who faults, and whether a process prints a
+//!   value, with the journal that leads there (`left.rt`, `faults.rt`, `printed.rt`).
 #![tactic(auto)]
 
 mod asked;
@@ -13,6 +13,7 @@ mod faults;
 mod finding;
 mod left;
 mod listing;
+mod printed;
 mod shown;
 mod sought;
 mod stranding;
@@ -21,4 +22,5 @@ pub use crate::faults::fault_text;
 pub use crate::finding::Finding;
 pub use crate::left::left_text;
 pub use crate::listing::{OutcomesText, outcomes_laws, outcomes_text};
+pub use crate::printed::printed_text;
 pub use crate::sought::SoughtText;

@@ -210,6 +210,15 @@ fn faults_argument<'a>(alloc: Global) -> Result<Arg<'a>, AllocError> {
     alone(faults)?.conflicts_with("left")
 }
 
+fn never_argument<'a>(alloc: Global) -> Result<Arg<'a>, AllocError> {
+    let never = Arg::new(alloc, "never")
+        .long("never")
+        .action(ArgAction::Set)
+        .value_name("NAME=VALUE")
+        .help("Prints whether some run has the process print the value, whether the run ends or not");
+    alone(never)?.conflicts_with("left")?.conflicts_with("faults")
+}
+
 fn outcomes_command<'a>(alloc: Global) -> Result<Command<'a>, AllocError> {
     let file = file_argument(alloc, "file", "FILE", "The script");
     let waiting = flag_argument(
@@ -228,6 +237,7 @@ fn outcomes_command<'a>(alloc: Global) -> Result<Command<'a>, AllocError> {
         ),
         left_argument(alloc)?,
         faults_argument(alloc)?,
+        never_argument(alloc)?,
         only_argument(
             alloc,
             "Processes that are told, with commas between, or all: the others make no other outcome"
@@ -252,10 +262,11 @@ fn wanted_of<'a>(outcomes: &ArgMatches<'a>) -> Wanted<'a> {
 
 /// What the words behind `outcomes` seek in place of outcomes.
 fn sought_of<'a>(outcomes: &ArgMatches<'a>) -> Option<Sought<'a>> {
-    match outcomes.get_str("left") {
-        Some(names) => Some(Sought::Left(names)),
-        None if outcomes.get_flag("faults") => Some(Sought::Fault),
-        None => None,
+    match (outcomes.get_str("left"), outcomes.get_str("never")) {
+        (Some(names), _) => Some(Sought::Left(names)),
+        (None, Some(print)) => Some(Sought::Printed(print)),
+        (None, None) if outcomes.get_flag("faults") => Some(Sought::Fault),
+        (None, None) => None,
     }
 }
 

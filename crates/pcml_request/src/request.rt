@@ -32,12 +32,13 @@ pub struct Search<'a> {
     pub of: Option<u32>,
 }
 
-/// What is sought in all runs: a process of these names (separated by commas, or `all`) that can never end any more, or one
-/// that has faulted.
+/// What is sought in all runs: a process of these names (separated by commas, or `all`) that can never end any more, one
+/// that has faulted, or that the process of a name has printed a value, as `NAME=VALUE`.
 #[derive(Clone, Copy, Debug)]
 pub enum Sought<'a> {
     Left(&'a str),
     Fault,
+    Printed(&'a str),
 }
 
 /// What is sought in runs of any length of the script in a file, whether they end or not, where at most so many states

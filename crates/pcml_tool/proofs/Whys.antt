@@ -33,6 +33,7 @@ fails_journal Holds asked source read s holds spells has fits faults.TooLarge sa
 fails_journal Holds asked source read s holds spells has fits (faults.File its) says = absurd says
 fails_journal Holds asked source read s holds spells has fits (faults.Script its) says = absurd says
 fails_journal Holds asked source read s holds spells has fits (faults.Names its) says = absurd says
+fails_journal Holds asked source read s holds spells has fits (faults.Unprinted its) says = absurd says
 fails_journal Holds asked source read s holds spells has fits (faults.Meet its) says = absurd says
 fails_journal Holds asked source read s holds spells has fits (faults.Play its) says = absurd says
 fails_journal Holds asked source read s holds spells has fits (faults.Run its) says = absurd says

@@ -46,7 +46,7 @@ number_of_seasons seasons.NoWorker = 6
 number_of_seasons seasons.Seasons = 7
 number_of_seasons seasons.SeasonCount = 8
 
--- none where a name is no process's, and where a journal of which a chart is wanted is no run
+-- none where a name is no process's, or with no value, and where a journal of which a chart is wanted is no run
 abbrev pub number_of : Fault → Option ℕ
 number_of faults.Memory = Some 1
 number_of faults.TooLarge = Some 23
@@ -60,6 +60,7 @@ number_of (faults.Chart (charts.NoRun line)) = None
 number_of (faults.Chart (charts.Unnamed name)) = None
 number_of (faults.Names names.Memory) = Some 1
 number_of (faults.Names (names.Unnamed name)) = None
+number_of (faults.Unprinted text) = None
 number_of (faults.Meet meets.Memory) = Some 1
 number_of (faults.Meet meets.NoThread) = Some 6
 number_of (faults.Play plays.Memory) = Some 1
@@ -68,8 +69,9 @@ number_of (faults.Play (plays.BadStep line)) = Some 22
 number_of (faults.Run fault) = Some (number_of_run fault)
 number_of (faults.Seasons fault) = Some (number_of_seasons fault)
 
--- that of words that are not understood where a name is no process's, and else 1
+-- that of words that are not understood where a name is no process's, or with no value, and else 1
 abbrev pub status_of : Fault → ℕ
 status_of (faults.Names (names.Unnamed name)) = 2
 status_of (faults.Chart (charts.Unnamed name)) = 2
+status_of (faults.Unprinted text) = 2
 status_of fault = 1

@@ -34,6 +34,8 @@ pub enum Fault {
     Chart(ChartFault),
     /// Names of which one is no process's.
     Names(NamesFault),
+    /// A text that names no process with a value.
+    Unprinted(String),
     /// A pair that did not meet.
     Meet(MeetFault),
     /// A schedule that cannot be played.
@@ -45,12 +47,13 @@ pub enum Fault {
 }
 
 impl Fault {
-    /// The status that it is told with: 2, as words that are not understood, where a name is no process's, and else 1.
+    /// The status that it is told with: 2, as words that are not understood, where a name is no process's, or with no value, and else 1.
     pub(crate) fn status(&self) -> u8
         ensures { result ≡ status_of self.now }
     {
         match self {
             Fault::Names(NamesFault::Unnamed(_)) | Fault::Chart(ChartFault::Unnamed(_)) => 2,
+            Fault::Unprinted(_) => 2,
             _ => 1,
         }
     }
@@ -73,6 +76,7 @@ impl Fault {
             Fault::Chart(ChartFault::NoRun(_) | ChartFault::Unnamed(_)) => None,
             Fault::Names(NamesFault::Memory) => Some(1),
             Fault::Names(NamesFault::Unnamed(_)) => None,
+            Fault::Unprinted(_) => None,
             Fault::Meet(MeetFault::Memory) => Some(1),
             Fault::Meet(MeetFault::NoThread) => Some(6),
             Fault::Play(PlayFault::Memory) => Some(1),
@@ -178,6 +182,9 @@ impl fmt::Display for Fault {
     fn fmt<W: fmt::Write>(&self, f: &mut fmt::Formatter<W>) -> fmt::Result {
         if let Some(name) = self.unnamed() {
             return write!(f, "error: no process is named '{name}'");
+        }
+        if let Fault::Unprinted(text) = self {
+            return write!(f, "error: '{text}' is no process's name, = and a value as print writes it");
         }
         match self.number() {
             Some(number) => write!(f, "fault {number}")?,

@@ -14,9 +14,9 @@ use crate::fault::Fault;
 use crate::from_files::read_script;
 use crate::searching::verdict_of;
 use outcomes::Watch;
-use pcml_answers::named_processes;
+use pcml_answers::{named_print, named_processes};
 use pcml_files::Source;
-use pcml_outcomes::{Finding, SoughtText, fault_text, left_text};
+use pcml_outcomes::{Finding, SoughtText, fault_text, left_text, printed_text};
 use pcml_request::{Seeking, Sought};
 use script::Script;
 use std::alloc::Global;
@@ -82,6 +82,12 @@ fn told_of<W: Watch>(
             Ok(left_text(alloc, script, limit, &marks, watch)?)
         }
         Sought::Fault => Ok(fault_text(alloc, script, limit, watch)?),
+        Sought::Printed(text) => {
+            let Some(print) = named_print(alloc, script, text)? else {
+                return Err(Fault::Unprinted(String::from_str(alloc, text)?));
+            };
+            Ok(printed_text(alloc, script, limit, print, watch)?)
+        }
     }
 }
 

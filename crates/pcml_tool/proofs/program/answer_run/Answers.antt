@@ -36,6 +36,7 @@ fails_running Holds asked source s holds spells (faults.Names its) says = absurd
 fails_running Holds asked source s holds spells faults.TooLarge says = (source, holds, s, spells, says)
 fails_running Holds asked source s holds spells (faults.Journal its) says = (source, holds, s, spells, says)
 fails_running Holds asked source s holds spells (faults.Chart its) says = (source, holds, s, spells, says)
+fails_running Holds asked source s holds spells (faults.Unprinted its) says = (source, holds, s, spells, says)
 fails_running Holds asked source s holds spells (faults.Meet its) says = (source, holds, s, spells, says)
 fails_running Holds asked source s holds spells (faults.Play its) says = (source, holds, s, spells, says)
 fails_running Holds asked source s holds spells (faults.Run its) says = (source, holds, s, spells, says)
