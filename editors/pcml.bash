@@ -20,7 +20,7 @@ _pcml_options() {
     why) echo --rows --seasons --short --help ;;
     chart) echo --rows --seasons --from --to --only --as --help ;;
     next) echo --rows --help ;;
-    outcomes) echo --rows --limit --waiting --need --left --faults --only --first --journal --of --help ;;
+    outcomes) echo --rows --limit --waiting --need --left --faults --never --only --first --journal --of --help ;;
     stats) echo --rows --seasons --help ;;
     *) echo --help ;;
   esac
@@ -52,7 +52,7 @@ _pcml() {
     --only) _pcml_give all ;;
     --as) _pcml_give 'mermaid svg' ;;
     --left) _pcml_give all ;;
-    --seasons | --from | --to | --limit | --of) ;;
+    --seasons | --from | --to | --limit | --never | --of) ;;
     *) _pcml_argument ;;
   esac
 }

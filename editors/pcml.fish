@@ -57,6 +57,7 @@ complete -c pcml -n '__pcml_is outcomes' -l waiting -d 'Tells only the outcomes 
 complete -c pcml -n '__pcml_is outcomes' -l need -x -a 'all' -d 'Processes that have to end'
 complete -c pcml -n '__pcml_is outcomes' -l left -x -a 'all' -d 'Tells of outcomes nothing but who of these processes'
 complete -c pcml -n '__pcml_is outcomes' -l faults -d 'Tells of outcomes nothing but which process faults'
+complete -c pcml -n '__pcml_is outcomes' -l never -x -d 'Tells of outcomes nothing but whether the process of this name ever prints the value'
 complete -c pcml -n '__pcml_is outcomes' -l only -x -a 'all' -d 'Names of processes'
 complete -c pcml -n '__pcml_is outcomes' -l first -d 'Stops at the first outcome that is told'
 complete -c pcml -n '__pcml_is outcomes' -l journal -r -F -d 'Writes the lines of the journal to the file TO too'

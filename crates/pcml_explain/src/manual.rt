@@ -21,6 +21,7 @@ SYNOPSIS
        [--only NAMES] [--first] [--journal TO [--of K]]
        pcml outcomes FILE --left NAMES [--limit C] [--journal TO]
        pcml outcomes FILE --faults [--limit C] [--journal TO]
+       pcml outcomes FILE --never NAME=VALUE [--limit C] [--journal TO]
        pcml check FILE
        pcml play FILE
        pcml stats FILE JOURNAL [--rows G] [--seasons K]
@@ -316,6 +317,18 @@ OPTIONS
               fewest commits, of several there the first.  none, unknown,
               --limit and --journal are as with --left.
 
+       --never NAME=VALUE
+              Tells of outcomes nothing but whether the process of this name
+              ever prints the value, which is written as print writes it:
+              some run leads to where it has, whether the run ends or goes on
+              for ever.
+
+              The line printed NAME VALUE states V tells that it does, with
+              status 3, by the fewest commits.  never NAME VALUE stands for
+              it where it never does, with all behind, and where that is not
+              known, with cut.  What was printed before tells no states
+              apart.  --limit and --journal are as with --left.
+
        -h, --help
               Prints the help.
 
@@ -388,9 +401,9 @@ EXIT STATUS
               that on standard output; or outcomes of which one leaves a
               process waiting or spent, or beside which one waits for ever,
               or of which not all is known, with --waiting or --need, or by
-              --left or --faults it is not known, or of which none has the
-              number of --of.  Where standard error is a terminal, the
-              system's reason why a file cannot be read stands behind a
+              --left, --faults or --never it is not known, or of which none
+              has the number of --of.  Where standard error is a terminal,
+              the system's reason why a file cannot be read stands behind a
               fault, or what why FILE tells of a text that is no script.
 
        2      Words that are not understood, a name that no process has, and
@@ -399,8 +412,8 @@ EXIT STATUS
 
        3      A process that --need names has not ended, in the run or in
               some outcome, or may be stranded, or one that --left names is
-              left behind, or with --faults one faults: all is on standard
-              output.
+              left behind, or with --faults one faults, or what is never to
+              be printed, with --never, is: all is on standard output.
 
        70     The script ./pcml of the sources has no program to run and
               cannot answer without, or a check of an unproved build found

@@ -215,8 +215,12 @@ fn never_argument<'a>(alloc: Global) -> Result<Arg<'a>, AllocError> {
         .long("never")
         .action(ArgAction::Set)
         .value_name("NAME=VALUE")
-        .help("Prints whether some run has the process print the value, whether the run ends or not");
-    alone(never)?.conflicts_with("left")?.conflicts_with("faults")
+        .help(
+            "Prints whether some run has the process print the value, whether the run ends or not",
+        );
+    alone(never)?
+        .conflicts_with("left")?
+        .conflicts_with("faults")
 }
 
 fn outcomes_command<'a>(alloc: Global) -> Result<Command<'a>, AllocError> {
