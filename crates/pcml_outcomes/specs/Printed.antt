@@ -16,11 +16,18 @@ use Rattle.pcml_outcomes.specs.declared.finding.Finding.{Finding}
 use Rattle.pcml_outcomes.specs.declared.finding.Finding.TheVariants.{Clear, Open, Stuck}
 use Rattle.pcml_outcomes.specs.declared.sought.SoughtText.{SoughtText}
 
+abbrev pub word_of : Printed → List ℕ
+word_of (Behind journal) = codes "printed "
+word_of printed = codes "never "
+
+abbrev pub end_of : Printed → List ℕ
+end_of (Behind journal) = codes "\n"
+end_of Never = codes " all\n"
+end_of Unknown = codes " cut\n"
+
 -- that the process prints the value, or never does, or that it is not known that it does; and how many states were seen
 abbrev pub printed_line : Naming → Print → Printed → ℕ → List ℕ
-printed_line names print (Behind journal) visited = codes "printed " ++ names.thread print.process ++ codes " " ++ atom_text names print.value ++ codes " states " ++ decimal visited ++ codes "\n"
-printed_line names print Never visited = codes "never " ++ names.thread print.process ++ codes " " ++ atom_text names print.value ++ codes " states " ++ decimal visited ++ codes " all\n"
-printed_line names print Unknown visited = codes "never " ++ names.thread print.process ++ codes " " ++ atom_text names print.value ++ codes " states " ++ decimal visited ++ codes " cut\n"
+printed_line names print printed visited = word_of printed ++ names.thread print.process ++ codes " " ++ atom_text names print.value ++ codes " states " ++ decimal visited ++ end_of printed
 
 -- the run to where it has
 abbrev pub printed_run : Printed → Option (List Commit)

@@ -9,7 +9,7 @@ ghost use Rattle.script.specs.Scripts.{script_of};
 ghost use Rattle.journal_text.specs.Journals.{HasLine};
 ghost use Rattle.journal_text.specs.Names.{named, names_of};
 ghost use Rattle.pcml_answers.specs.Prints.{IsProcess};
-ghost use Rattle.pcml_outcomes.specs.Printed.{IsPrinted, TellsPrinted, printed_finding, printed_line, printed_run};
+ghost use Rattle.pcml_outcomes.specs.Printed.{IsPrinted, TellsPrinted, end_of, printed_finding, printed_line, printed_run, word_of};
 
 use crate::asked::journal_of;
 use crate::finding::Finding;
@@ -23,10 +23,23 @@ use script::Script;
 use std::alloc::{AllocError, Global};
 
 /// The word for what was found.
-fn word_of(printed: &Printed) -> &'static str {
+fn word_of(printed: &Printed) -> &'static str
+    ensures { result.now ≡ word_of printed.now }
+{
     match printed {
         Printed::Behind(_) => "printed ",
         Printed::Never | Printed::Unknown => "never ",
+    }
+}
+
+/// What ends its line.
+fn end_of(printed: &Printed) -> &'static str
+    ensures { result.now ≡ end_of printed.now }
+{
+    match printed {
+        Printed::Behind(_) => "\n",
+        Printed::Never => " all\n",
+        Printed::Unknown => " cut\n",
     }
 }
 
@@ -45,11 +58,8 @@ fn push_printed(
     out.push_str(" ")?;
     push_atom(out, script, print.value)?;
     let visited = found.visited;
-    match &found.printed {
-        Printed::Behind(_) => write!(out, " states {visited}\n"),
-        Printed::Never => write!(out, " states {visited} all\n"),
-        Printed::Unknown => write!(out, " states {visited} cut\n"),
-    }
+    write!(out, " states {visited}")?;
+    out.push_str(end_of(&found.printed))
 }
 
 /// The run to where it has.
