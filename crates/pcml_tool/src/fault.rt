@@ -184,7 +184,10 @@ impl fmt::Display for Fault {
             return write!(f, "error: no process is named '{name}'");
         }
         if let Fault::Unprinted(text) = self {
-            return write!(f, "error: '{text}' is no process's name, = and a value as print writes it");
+            return write!(
+                f,
+                "error: '{text}' is no process's name, = and a value as print writes it"
+            );
         }
         match self.number() {
             Some(number) => write!(f, "fault {number}")?,
