@@ -7,7 +7,7 @@ use super::check_same;
 use journal_replay::{End, replay};
 use outcomes::{Asked, Extent, Outcomes, Told, Unwatched, find_outcomes};
 use protocol_values::{Atom, Commit, Message, Row};
-use reachable::{AllLeft, Left, find_left};
+use reachable::{AllFaults, AllLeft, Faults, Left, Printed, find_fault, find_left, find_printed};
 use script::parse;
 use std::alloc::Global;
 use std::process::Abort;
@@ -127,6 +127,59 @@ fn a_clock_is_left_behind_alone(rt: HostRuntime) -> Result<(), Fail> {
     check_same(&rt, clock.journal.len(), 0);
     let cut = left(&rt, BESIDE_A_CLOCK, 1, [false, true, true])?;
     check_same(&rt, matches!(cut.left, Left::Unknown), true);
+    Ok(())
+}
+
+/// A clock ticks for ever. One prints a number, and sends another; who receives it prints it, and takes it for a channel.
+const FAULT_BESIDE_A_CLOCK: &str =
+    "channel c; process clock { forever { sync always (); } } process a { print 5; sync send c (1); } process b { x <- sync recv c; print x; sync recv x; }";
+
+/// Who faults there, where at most so many configurations are seen.
+fn faults(rt: &impl AllocGlobal, limit: usize) -> Result<AllFaults, Fail>
+    requires some { 1 ≤ limit }
+    requires most { limit ≤ most_rows }
+{
+    let script = parse(rt.alloc(), FAULT_BESIDE_A_CLOCK.as_bytes())?;
+    Ok(find_fault(rt.alloc(), script.processes(), limit, &mut Unwatched)?)
+}
+
+#[test]
+fn who_takes_a_number_for_a_channel_faults(rt: HostRuntime) -> Result<(), Fail> {
+    let Faults::First(first) = faults(&rt, 256)?.faults else {
+        return Err(Fail::from("nobody faults"));
+    };
+    check_same(&rt, first.process, 2);
+    check_same(&rt, first.journal.len(), 1);
+    let cut = faults(&rt, 1)?;
+    check_same(&rt, matches!(cut.faults, Faults::Unknown), true);
+    let script = parse(rt.alloc(), BESIDE_A_CLOCK.as_bytes())?;
+    let none = find_fault(rt.alloc(), script.processes(), 256, &mut Unwatched)?;
+    check_same(&rt, matches!(none.faults, Faults::Nobody), true);
+    Ok(())
+}
+
+/// How many commits lead to where the process has printed the number there, if any do.
+fn printed(rt: &impl AllocGlobal, process: usize, number: u32) -> Result<Option<usize>, Fail> {
+    let script = parse(rt.alloc(), FAULT_BESIDE_A_CLOCK.as_bytes())?;
+    let processes = script.processes();
+    if process >= processes.len() {
+        return Err(Fail::from("there is no such process"));
+    }
+    let atom = Atom::Num(number);
+    let found = find_printed(rt.alloc(), processes, 256, process, atom, &mut Unwatched)?;
+    match found.printed {
+        Printed::Behind(journal) => Ok(Some(journal.len())),
+        Printed::Never => Ok(None),
+        Printed::Unknown => Err(Fail::from("not all was seen")),
+    }
+}
+
+#[test]
+fn what_is_printed_is_found_beside_a_clock(rt: HostRuntime) -> Result<(), Fail> {
+    check_same(&rt, printed(&rt, 1, 5)?, Some(0));
+    check_same(&rt, printed(&rt, 2, 1)?, Some(1));
+    check_same(&rt, printed(&rt, 2, 5)?, None);
+    check_same(&rt, printed(&rt, 0, 5)?, None);
     Ok(())
 }
 
