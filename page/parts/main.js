@@ -61,6 +61,7 @@ function connect_buttons(page) {
   found("choices").addEventListener("change", (event) => {
     if (event.target.id === "rows") page.forget();
     page.show(page.view);
+    if (event.target.id === "never") found(FIELDS[event.target.value] ?? "")?.focus();
   });
   document.addEventListener("keydown", (event) => {
     if (event.key === "Escape" && page.caller.open.size) page.caller.stop();

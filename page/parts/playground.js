@@ -3,9 +3,10 @@
 const SCRIPT = "script.pcml";
 const JOURNAL = "script.journal";
 const ROWS = 256;
+const MOST_ROWS = 1024;
 const SOON_BUSY = 250;
 const PAGES = ["language", "about"];
-// How it is told whether processes always end, by the status: they do, it is not known, one gets stuck.
+// How it is told whether all is as it has to be, by the status: it is, it is not known, some run shows that it is not.
 const KINDS = { 0: "met", 1: "open", 3: "fault" };
 const AFTER_RUN = "A run shows one outcome. Outcomes tells all, and Step lets you choose.";
 
@@ -31,7 +32,7 @@ class Playground {
 
   get rows() {
     const rows = Number(found("rows").value);
-    return rows >= 1 && rows <= 1024 ? Math.floor(rows) : ROWS;
+    return rows >= 1 && rows <= MOST_ROWS ? Math.floor(rows) : ROWS;
   }
 
   // Puts a script into the editor. What was made of an earlier one is no journal of it.
@@ -67,9 +68,9 @@ class Playground {
   }
 
   // Calls the program on the script as it stood when the view was asked for, with the syncs that a process may make
-  // where they are not as many as always.
+  // where they are not as many as always, and the call takes them.
   async play(words, files = {}) {
-    const all = this.rows === ROWS ? words : [...words, "--rows", String(this.rows)];
+    const all = this.rows === ROWS || asks_never(words) ? words : [...words, "--rows", String(this.rows)];
     const answer = await this.caller.call(all, { [SCRIPT]: this.text, ...files });
     if (answer.broke || (answer.status !== 0 && answer.out === "")) throw new Refusal(answer, all);
     return { ...answer, words: all };
@@ -98,9 +99,19 @@ class Playground {
     show_page(view);
     const is_page = PAGES.includes(view);
     for (const id of ["choices", "told", "answer"]) found(id).hidden = is_page;
-    found("for-outcomes").hidden = view !== "outcomes";
+    this.open_choices();
     this.set_old(false);
     if (is_page) found("panel").scrollTop = 0;
+  }
+
+  // Of the choices those are seen that count: what must never happen is asked alone.
+  open_choices() {
+    const { question } = this;
+    found("for-outcomes").hidden = this.view !== "outcomes";
+    found("for-rows").hidden = found("for-ends").hidden = question !== "";
+    for (const [asking, field] of Object.entries(FIELDS)) {
+      if (field) found(field).hidden = asking !== question;
+    }
   }
 
   draw({ told, asked, inside, waiting = new Map(), is_fault = false, kind = is_fault ? "fault" : "" }) {
@@ -149,7 +160,12 @@ class Playground {
 
   // The processes that have to end, as the program reads their names.
   get need() {
-    return found("need").value.trim().replace(/\s*,\s*/g, ",");
+    return without_gaps(found("need").value);
+  }
+
+  // The word that asks what must never happen, where that is asked.
+  get question() {
+    return this.view === "outcomes" ? found("never").value : "";
   }
 
   // Who has to end goes before who is left waiting: the program takes one of the two.
@@ -160,6 +176,7 @@ class Playground {
   }
 
   async outcomes() {
+    if (this.question) return this.never();
     const words = this.outcome_words();
     const answer = await this.play(words);
     const { outcomes, stranded, seen, extent } = read_outcomes(answer.out);
@@ -178,8 +195,26 @@ class Playground {
     };
   }
 
-  // Draws the journal that leads to an outcome or, where none is told, to where a process is stranded. Why and Step go on
-  // from there.
+  // Whether what must never happen does in some run. While its field is empty, that says what to fill in.
+  async never() {
+    const field = found(FIELDS[this.question]);
+    if (field?.value.trim() === "") return { told: field.title, inside: [] };
+    const words = never_words(this.question, field?.value);
+    const answer = await this.play(words);
+    const lines = read_never(answer.out);
+    const seen = `${counted(lines[0].states, "state")} seen in ${Math.round(answer.milliseconds)} ms.`;
+    const hints = [TOLD[lines[0].kind].means, seen, ...lines_of(answer.err)].map(drawn_hint);
+    const alone = ({ name, value }) => (value ? never_words("--never", `${name}=${value}`) : words);
+    return {
+      told: lines.map(told_of_never).join(" "),
+      kind: KINDS[answer.status],
+      asked: answer,
+      inside: [...drawn_happenings(lines, (line) => this.follow(alone(line))), ...hints],
+    };
+  }
+
+  // Draws the journal that leads to an outcome or, where none is told, to where a process is stranded, or to what must
+  // never happen. Why and Step go on from there.
   async follow(words) {
     this.turn += 1;
     const turn = this.turn;
@@ -187,13 +222,21 @@ class Playground {
     try {
       const answer = await this.play([...words, "--journal", JOURNAL]);
       const commits = lines_of(answer.files[JOURNAL] ?? "");
-      this.keep(commits, followed_by(words, read_outcomes(answer.out)));
+      if (asks_never(words)) this.make_room(commits);
+      this.keep(commits, followed_by(words, answer.out));
       this.stepper.begin(commits);
     } catch (error) {
       if (turn === this.turn) this.draw(await this.refused(error));
       return;
     }
     if (turn === this.turn) await this.show("chart");
+  }
+
+  // A run to what must never happen is of any length. Where a process makes more syncs in it than it may, it may then
+  // make these, and the one at which it waits.
+  make_room(commits) {
+    const syncs = commits.flatMap((line) => [...line.matchAll(/\.([0-9]+)\.[0-9]/g)]).map((it) => Number(it[1]));
+    found("rows").value = Math.min(MOST_ROWS, Math.max(this.rows, ...syncs.map((sync) => sync + 2)));
   }
 
   keep(commits, of) {
@@ -242,8 +285,8 @@ class Playground {
   // What is told where a call was stopped, broke off, or was refused by the program.
   async refused(error) {
     if (error instanceof Stopped) {
-      const hint = "A search is shorter where a process may make fewer syncs.";
-      return { told: "Stopped.", inside: [made("p", { class: "hint" }, hint)] };
+      const fewer = this.question ? "fewer messages are sent" : "a process may make fewer syncs";
+      return { told: "Stopped.", inside: [drawn_hint(`A search is shorter where ${fewer}.`)] };
     }
     if (error instanceof Refusal) return error.drawn(this.checking.caller, this.editor);
     return { told: "The page failed.", is_fault: true, inside: [made("p", {}, String(error))] };
@@ -275,8 +318,10 @@ class Refusal extends Error {
 }
 
 // What the journal leads to that was kept: the outcome of the number that was asked for, or else what is told first.
-function followed_by(words, { outcomes, stranded }) {
+function followed_by(words, out) {
+  if (asks_never(words)) return `a run to where ${what_happens(read_never(out)[0])}`;
   if (words.includes("--of")) return `outcome ${words.at(-1)}`;
+  const { outcomes, stranded } = read_outcomes(out);
   return outcomes.length ? `outcome ${outcomes[0].number}` : `a run that leaves ${stranded[0]?.name} stranded`;
 }
 
