@@ -30,6 +30,8 @@ LONG = "".join(f"channel c{n}; " for n in range(6)) + "".join(
     for n in range(6)
 )
 WRONG = "channel c;\nprocess a {\n  x = 1;\n}\n"
+# Who faults beside a clock, behind a commit.
+FAULTY = "process clock { forever { sync always (); } }\nprocess bad { sync always (); let x = x; }\n"
 # Two and a clock: nobody takes what dead sends, and late waits for ever behind a commit.
 BESIDE = (
     "channel c;\nprocess clock { forever { sync always (); } }\n"
@@ -70,11 +72,15 @@ def text_of(page, selector):
     return page.evaluate(f"document.querySelector({json.dumps(selector)}).textContent")
 
 
-def choose_example(page, name):
+def choose(page, selector, value):
     page.evaluate(
-        f"(() => {{ const it = document.querySelector('#example'); it.value = '{name}';"
-        " it.dispatchEvent(new Event('change')); })()"
+        f"(() => {{ const it = document.querySelector('{selector}'); it.value = '{value}';"
+        " it.dispatchEvent(new Event('change', { bubbles: true })); })()"
     )
+
+
+def choose_example(page, name):
+    choose(page, "#example", name)
     wait_answer(page)
 
 
@@ -157,14 +163,19 @@ def options_count(driven, address):
 
 
 def needs_end(page, names, words, told, kind):
-    """These names in the field ask by these words; what is told has this kind, by which it has its colour."""
+    """These names in the field ask by these words."""
     fill(page, "#need", names)
     page.press("Enter")
     wait_answer(page)
     meets(text_of(page, ".asked"), words)
     assert "--waiting" not in text_of(page, ".asked")
+    is_told(page, told, kind)
+
+
+def is_told(page, told, kind):
+    """What is told has this kind, by which it has its colour."""
     meets(text_of(page, "#told"), told)
-    assert page.evaluate("document.querySelector('#told').className") == f"told {kind}"
+    assert page.evaluate("document.querySelector('#told').className") == f"told {kind}".strip()
 
 
 def colour_of(page, selector):
@@ -196,6 +207,90 @@ def stranded_is_told(driven, address):
     choose_example(page, "crossed_sends")
     press_view(page, "outcomes")
     assert colour not in (colour_of(page, "#answer .waiting"), colour_of(page, "#told")), f"{colour} is that of others"
+
+
+def sees_rows(page):
+    return page.evaluate("document.querySelector('#rows').offsetParent !== null")
+
+
+def ask_never(page, question, field="", text=""):
+    """Chooses what must never happen, and writes who and what where the cursor is then."""
+    choose(page, "#never", question)
+    if field:
+        assert page.evaluate("document.activeElement.id") == field
+        fill(page, f"#{field}", text)
+        page.press("Enter")
+    asked = f"{question} {text.replace(' ', '')}".strip()
+    wait_until(page, f"document.querySelector('.asked')?.textContent.includes('{asked}')", question)
+    wait_answer(page)
+
+
+def never_printed_is_told(driven, address):
+    """A value that no run prints, the run that leads to one, and a text that names none."""
+    page = opened(driven, address)
+    choose_example(page, "peterson")
+    fill(page, "#rows", "9")
+    press_view(page, "outcomes")
+    choose(page, "#never", "--never")
+    is_told(page, "Fill in a process, = and a value", "")
+    ask_never(page, "--never", "printed", "observer=99")
+    is_told(page, "observer never prints 99.", "met")
+    assert text_of(page, ".asked") == "pcml outcomes script.pcml --never observer=99", "it is of runs of any length"
+    assert not sees_rows(page), "the syncs do not count, and are seen"
+    meets(text_of(page, "#answer"), "runs of any length", "42 states seen")
+    fill(page, "#script", page.evaluate("playground.editor.text").replace("set_turn (turn_b)", "set_turn (turn_a)"))
+    press_view(page, "outcomes")
+    is_told(page, "observer prints 99 in some run.", "fault")
+    page.click("#answer .moves button")
+    wait_answer(page)
+    meets(text_of(page, "#told"), "The chart of the ", " commits of a run to where observer prints 99.")
+    commits = text_of(page, "#told").split()[4]
+    press_view(page, "step")
+    meets(text_of(page, "#told"), f"{commits} commits taken.")
+    press_view(page, "outcomes")
+    ask_never(page, "--never", "printed", "observer=07")
+    is_told(page, "The program refuses this.", "fault")
+    meets(text_of(page, "#answer"), "'observer=07' is no process's name, = and a value as print writes it")
+    ask_never(page, "--never", "printed", "nobody=1")
+    meets(text_of(page, "#answer"), "'nobody=1' is no process's name, = and a value as print writes it")
+
+
+def never_else_is_told(driven, address):
+    """Who faults and who is left behind, in some run and in none; and that it is not asked any more."""
+    page = opened(driven, address)
+    fill(page, "#script", FAULTY)
+    press_view(page, "outcomes")
+    ask_never(page, "--faults")
+    is_told(page, "bad faults in some run.", "fault")
+    assert page.evaluate("document.querySelector('.asked').textContent") == "pcml outcomes script.pcml --faults"
+    page.click("#answer .moves button")
+    wait_answer(page)
+    meets(text_of(page, "#told"), "The chart of the 1 commit of a run to where bad faults.")
+    press_view(page, "why")
+    meets(text_of(page, "#answer"), "bad faulted")
+    # Its run has more syncs than a process may make.
+    fill(page, "#script", "process bad { loop 12 { sync always (); } let x = x; }\n")
+    fill(page, "#rows", "9")
+    press_view(page, "outcomes")
+    page.click("#answer .moves button")
+    wait_answer(page)
+    meets(text_of(page, "#told"), "The chart of the 12 commits of a run to where bad faults.")
+    fill(page, "#script", FAULTY)
+    press_view(page, "outcomes")
+    ask_never(page, "--left", "behind", "clock , bad")
+    is_told(page, "clock is left behind in some run.", "fault")
+    meets(text_of(page, "#answer"), "--left clock,bad", "whatever follows", "that never ends by itself is always left behind")
+    ask_never(page, "--left", "behind", "bad")
+    is_told(page, "None of these is ever left behind.", "met")
+    ask_never(page, "--left", "behind", "nobody")
+    meets(text_of(page, "#answer"), "no process is named 'nobody'")
+    choose_example(page, "client_server")
+    press_view(page, "outcomes")
+    ask_never(page, "--faults")
+    is_told(page, "No process ever faults.", "met")
+    choose(page, "#never", "")
+    wait_until(page, "document.querySelector('#told').textContent.includes('and that is all')", "all outcomes")
+    assert sees_rows(page), "the syncs count again, and are not seen"
 
 
 def steps_go_and_come(driven, address):
@@ -363,6 +458,8 @@ TRIALS = [
     views_show,
     options_count,
     stranded_is_told,
+    never_printed_is_told,
+    never_else_is_told,
     steps_go_and_come,
     faults_are_told,
     long_search_stops,
@@ -398,7 +495,7 @@ def take_picture(page, folder, view, shape, is_dark):
 
 
 def take_pictures(driven, address, folder):
-    """A picture of each view and of a fault, wide and narrow, light and dark."""
+    """A picture of each view, of what must never happen and of a fault, wide and narrow, light and dark."""
     folder.mkdir(parents=True, exist_ok=True)
     for (width, height), shape in ((WIDE, "wide"), (NARROW, "narrow")):
         for is_dark in (False, True):
@@ -408,6 +505,9 @@ def take_pictures(driven, address, folder):
             for view in VIEWS:
                 press_view(page, view)
                 take_picture(page, folder, view, shape, is_dark)
+            press_view(page, "outcomes")
+            ask_never(page, "--never", "printed", "client=42")
+            take_picture(page, folder, "never", shape, is_dark)
             press_view(page, "run")
             fill(page, "#script", WRONG)
             wait_until(page, "document.querySelector('#state .fault')", "the fault")
