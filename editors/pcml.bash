@@ -64,7 +64,7 @@ _pcml_argument() {
     return
   fi
   case $command in
-    explain) _pcml_give '1 2 3 4 5 6 7 8 11 12 13 14 15 16 21 22 23 31 32 unset kind range shape waiting spent unstarted stranded deadlock nack journal stamp tail lawful maximal outcome configuration' ;;
+    explain) _pcml_give '1 2 3 4 5 6 7 8 11 12 13 14 15 16 21 22 23 31 32 unset kind range shape waiting spent unstarted stranded left faulted printed deadlock nack journal stamp tail lawful maximal outcome configuration' ;;
     help) _pcml_give "$commands" ;;
     manual | version | meet) ;;
     *) _pcml_files ;;

@@ -30,7 +30,7 @@ complete -c pcml -n __pcml_is_bare -a version -d 'Prints the version'
 complete -c pcml -n __pcml_is_bare -a meet -d 'Sends one number from a thread to another'
 complete -c pcml -n __pcml_is_bare -a help -d 'Prints the help of the program or of a command'
 complete -c pcml -n '__pcml_is run replay why chart next outcomes check play stats' -F
-complete -c pcml -n '__pcml_is explain' -a '1 2 3 4 5 6 7 8 11 12 13 14 15 16 21 22 23 31 32 unset kind range shape waiting spent unstarted stranded deadlock nack journal stamp tail lawful maximal outcome configuration'
+complete -c pcml -n '__pcml_is explain' -a '1 2 3 4 5 6 7 8 11 12 13 14 15 16 21 22 23 31 32 unset kind range shape waiting spent unstarted stranded left faulted printed deadlock nack journal stamp tail lawful maximal outcome configuration'
 complete -c pcml -n '__pcml_is help' -a 'run replay why chart next outcomes check play stats explain manual version meet help'
 complete -c pcml -n '__pcml_is run' -l workers -x -a '1 2 4 8 16' -d 'How many workers'
 complete -c pcml -n '__pcml_is run' -l rows -x -a '256 1024' -d 'How many syncs a process may make'

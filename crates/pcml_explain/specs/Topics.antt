@@ -6,7 +6,7 @@ use Rattle.pcml_explain.specs.declared.Topic.{Topic}
 use Rattle.pcml_explain.specs.declared.Topic.TheVariants as topics
 use Rattle.pcml_explain.specs.declared.Topic.TheVariants.{Contents, Fault, Manual}
 use Rattle.pcml_explain.specs.declared.Word.{Word}
-use Rattle.pcml_explain.specs.declared.Word.TheVariants.{Unset, Kind, Range, Shape, Waiting, Spent, Unstarted, Stranded, Deadlock, Nack, Journal, Stamp, Tail, Lawful, Maximal, Outcome, Configuration}
+use Rattle.pcml_explain.specs.declared.Word.TheVariants.{Unset, Kind, Range, Shape, Waiting, Spent, Unstarted, Stranded, Left, Faulted, Printed, Deadlock, Nack, Journal, Stamp, Tail, Lawful, Maximal, Outcome, Configuration}
 
 abbrev pub fault_numbers : List ℕ
 fault_numbers = 1 ∷ 2 ∷ 3 ∷ 4 ∷ 5 ∷ 6 ∷ 7 ∷ 8 ∷ 11 ∷ 12 ∷ 13 ∷ 14 ∷ 15 ∷ 16 ∷ 21 ∷ 22 ∷ 23 ∷ 31 ∷ 32 ∷ []
@@ -31,6 +31,9 @@ letters Waiting = codes "waiting"
 letters Spent = codes "spent"
 letters Unstarted = codes "unstarted"
 letters Stranded = codes "stranded"
+letters Left = codes "left"
+letters Faulted = codes "faulted"
+letters Printed = codes "printed"
 letters Deadlock = codes "deadlock"
 letters Nack = codes "nack"
 letters Journal = codes "journal"

@@ -153,9 +153,9 @@ COMMANDS
               Prints what fault N means, the smallest file that gives it or
               how it comes about, and what to do. N may also be one of the
               words unset, kind, range, shape, waiting, spent, unstarted,
-              stranded, deadlock, nack, journal, stamp, tail, lawful,
-              maximal, outcome and configuration.  Without N it lists them
-              all.
+              stranded, left, faulted, printed, deadlock, nack, journal,
+              stamp, tail, lawful, maximal, outcome and configuration.
+              Without N it lists them all.
 
        manual Prints this page.
 
@@ -326,7 +326,10 @@ OPTIONS
               The line printed NAME VALUE states V tells that it does, with
               status 3, by the fewest commits.  never NAME VALUE stands for
               it where it never does, with all behind, and where that is not
-              known, with cut.  What was printed before tells no states
+              known, with cut.  The option may be given again: each value has
+              a line and a search of its own, in their order. The status is 3
+              where one is printed, and --journal keeps a journal that leads
+              to the first of them.  What was printed before tells no states
               apart.  --limit and --journal are as with --left.
 
        -h, --help

@@ -28,6 +28,9 @@ pcml explain N, or a word of these, tells more:
   spent          a process made as many syncs as it may
   unstarted      a process was not spawned
   stranded       a process can never move any more
+  left           a process can never end any more
+  faulted        a process stopped at a fault of its own
+  printed        a process prints a value in some run
   deadlock       processes wait for one another
   nack           what tells others that a sync took something else
   journal        what a run's lines say

@@ -67,6 +67,34 @@ what to do: pcml outcomes FILE --need NAMES --journal TO tells whether one of th
 keeps a run that leads there; pcml why FILE TO tells then what it waits for.
 ";
 
+pub(crate) const LEFT: &str = "\
+left: some run leads to where a process can never end any more, whatever follows
+comes about: where it waits for what never comes, though others may go on for ever; and of each process that never
+ends by itself. Who has faulted has ended, and who was never started has not.
+example: pcml outcomes FILE --left a tells left a states 1, where FILE is
+  channel c; process a { sync send c (1); } process clock { forever { sync always (); } }
+what to do: pcml outcomes FILE --left NAMES --journal TO keeps a run that leads there; pcml why FILE TO tells then
+what it waits for. Who can still move is asked by --need.
+";
+
+pub(crate) const FAULTED: &str = "\
+faulted: a process stopped at a fault of its own: unset, kind, range or shape
+comes about: in a run, or in an outcome. Runs that go on for ever come to no outcome: --faults looks at these too.
+example: pcml outcomes FILE --faults tells fault a states 2, where FILE is
+  process clock { forever { sync always (); } } process a { sync always (); let x = x; }
+what to do: pcml outcomes FILE --faults --journal TO keeps a run that leads there; pcml why FILE TO tells where and
+why. A read of a name that is never set, as here, says what must never be reached.
+";
+
+pub(crate) const PRINTED: &str = "\
+printed: some run has a process print a value, whether the run ends or goes on for ever
+comes about: outcomes has the prints of runs that end. --never NAME=VALUE looks at all runs, for each value named.
+example: pcml outcomes FILE --never a=7 tells printed a 7 states 1, where FILE is
+  process a { forever { sync always (); print 7; } }
+what to do: where it must never be printed, pcml outcomes FILE --never NAME=VALUE --journal TO has status 3 and keeps
+a run that leads there. With status 0 no run does.
+";
+
 pub(crate) const DEADLOCK: &str = "\
 deadlock: processes wait for one another, and none of them goes on
 comes about: where each of them stands in a sync that only another one of them could take.
