@@ -9,3 +9,4 @@ mod Breaking
 mod Refusing
 pub mod Lines
 pub mod Following
+mod Wording

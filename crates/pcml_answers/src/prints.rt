@@ -1,16 +1,19 @@
-//! Which process and which value a text names.
+//! Which processes and which values texts name.
 
-ghost use Rattle.std.specs.Prelude.{◌<◌, IfOk, IfSome, OnOk, length};
+ghost use Rattle.std.specs.Prelude.{◌≡◌, ◌<◌, IfErr, IfNone, IfOk, IfSome, OnOk, Some, length, map};
+ghost use Rattle.std.specs.String.{string_bytes};
 ghost use Rattle.script.specs.Appending.{Adds};
 ghost use Rattle.script.specs.Scripts.{script_of};
 ghost use Rattle.journal_text.specs.Names.{named};
-ghost use Rattle.pcml_answers.specs.Prints.{IsProcess, NamesPrint, print_text};
+ghost use Rattle.pcml_answers.specs.Prints.{HasWords, IsProcess, MisnamesPrints, NamePrints, NamesNone, NamesPrint, only_value, print_text, value_line};
+ghost use Rattle.pcml_answers.specs.declared.prints.Print.{Print as PrintPart};
+ghost use Rattle.pcml_answers.specs.declared.prints.PrintsFault.TheVariants.{Memory};
 
 use crate::processes::push_name;
-use journal_text::push_atom;
-use protocol_values::{Atom, NackName};
+use journal_text::{JournalFault, push_atom, read_journal};
+use protocol_values::{Atom, Cause, Commit, Message};
 use script::Script;
-use std::alloc::{AllocError, Global};
+use std::alloc::{AllocError, AllocFailed, Global};
 
 /// A process, and a value that it may print.
 #[derive(Clone, Copy, Debug)]
@@ -20,58 +23,72 @@ pub struct Print {
     pub value: Atom,
 }
 
-/// The number of the process with this name.
-fn process_named(script: &Script, name: &str) -> Option<usize>
-    ensures { IfSome result (λ process. process < length (script_of script.now).processes) }
+/// Why texts name no prints.
+#[derive(Debug, Drop)]
+pub enum PrintsFault {
+    Memory,
+    /// A text that names no process and value.
+    Unprinted(String),
+}
+
+impl<T: Drop> From<AllocFailed<T>> for PrintsFault {
+    ghost from_gives = { λ _ e. e ≡ Memory };
+
+    fn from(_e: AllocFailed<T>) -> PrintsFault {
+        PrintsFault::Memory
+    }
+}
+
+impl From<AllocError> for PrintsFault {
+    ghost from_gives = { λ _ e. e ≡ Memory };
+
+    fn from(_e: AllocError) -> PrintsFault {
+        PrintsFault::Memory
+    }
+}
+
+/// The line of a journal in which the process of this name takes this value alone.
+fn value_line(alloc: Global, name: &str, value: &str) -> Result<String, AllocError>
+    ensures { IfOk result (λ line. string_bytes line ≡ value_line name.now value.now) }
 {
-    let processes = script.processes();
-    for process in 0..processes.len() {
-        if processes[process].name() == name {
-            return Some(process);
-        }
-    }
-    None
+    format!(in alloc; "1 {name}.0.0 always ({value})\n")
 }
 
-/// The number of the channel with this name.
-fn channel_named(script: &Script, name: &str) -> Option<u8> {
-    for chan in 0..script.channels() {
-        if script.channel_name(chan) == name {
-            return u8::try_from(chan).ok();
-        }
-    }
-    None
-}
-
-/// The nack of this name: its process, a dot and its number.
-fn nack_named(script: &Script, name: &str) -> Option<NackName> {
-    let (process, number) = name.split_once('.')?;
-    Some(NackName {
-        thread: u8::try_from(process_named(script, process)?).ok()?,
-        k: number.parse::<u8>().ok()?,
-    })
-}
-
-/// The value that a print writes so, if there is one.
-fn value_named(script: &Script, text: &str) -> Option<Atom> {
-    if let Some(name) = text.strip_prefix('#') {
-        return Some(Atom::Chan(channel_named(script, name)?));
-    }
-    if let Some(name) = text.strip_prefix('!') {
-        return Some(Atom::Nack(nack_named(script, name)?));
-    }
-    Some(Atom::Num(text.parse::<u32>().ok()?))
-}
-
-/// The process and the value that the text most likely names.
-fn candidate(script: &Script, text: &str) -> Option<Print>
-    ensures { IfSome result (IsProcess (script_of script.now)) }
+/// The process that a journal of one such line tells of, and the value.
+fn only_value(commits: &[Commit]) -> Option<Print>
+    ensures { result ≡ only_value commits.now }
 {
-    let (name, value) = text.split_once('=')?;
-    Some(Print {
-        process: process_named(script, name)?,
-        value: value_named(script, value)?,
-    })
+    match commits {
+        [
+            Commit::Alone {
+                at: (row, _),
+                cause: Cause::Always(Message::One(value)),
+                ..
+            },
+        ] => Some(Print {
+            process: usize::from(row.thread),
+            value: *value,
+        }),
+        _ => None,
+    }
+}
+
+/// The process and the value of these names, as a journal's line has them: so what is printed is read as it is written.
+fn read_print(
+    alloc: Global,
+    script: &Script,
+    name: &str,
+    value: &str,
+) -> Result<Option<Print>, AllocError>
+    ensures process { IfOk result (λ read. IfSome read (IsProcess (script_of script.now))) }
+    ensures none { IfOk result (λ read. (print : PrintPart) → HasWords (script_of script.now) name.now value.now print → read ≡ Some print) }
+{
+    let line = value_line(alloc, name, value)?;
+    match read_journal(alloc, script, line.as_bytes()) {
+        Ok(commits) => Ok(only_value(&commits)),
+        Err(JournalFault::Memory) => Err(AllocError),
+        Err(JournalFault::BadLine(_)) => Ok(None),
+    }
 }
 
 /// Appends the process and the value, as `NAME=VALUE`.
@@ -86,9 +103,13 @@ fn push_print(out: &mut String, script: &Script, print: Print) -> Result<(), All
 
 /// The process and the value that `NAME=VALUE` names, with the value as `print` writes it; none where it names none.
 pub fn named_print(alloc: Global, script: &Script, text: &str) -> Result<Option<Print>, AllocError>
-    ensures { IfOk result (λ found. IfSome found (NamesPrint (script_of script.now) text.now)) }
+    ensures named { IfOk result (λ found. IfSome found (NamesPrint (script_of script.now) text.now)) }
+    ensures none { IfOk result (λ found. IfNone found (NamesNone (script_of script.now) text.now)) }
 {
-    let Some(print) = candidate(script, text) else {
+    let Some((name, value)) = text.split_once('=') else {
+        return Ok(None);
+    };
+    let Some(print) = read_print(alloc, script, name, value)? else {
         return Ok(None);
     };
     let mut spelled = String::new(alloc);
@@ -98,4 +119,23 @@ pub fn named_print(alloc: Global, script: &Script, text: &str) -> Result<Option<
     } else {
         Ok(None)
     }
+}
+
+/// What each of the texts names, in their order. The first that names nothing is a fault.
+pub fn named_prints(
+    alloc: Global,
+    script: &Script,
+    texts: &[&str],
+) -> Result<Vec<Print>, PrintsFault>
+    ensures named { IfOk result (λ prints. NamePrints (script_of script.now) (map (λ t. t.now) texts.now) prints.items) }
+    ensures fault { IfErr result (MisnamesPrints (script_of script.now) (map (λ t. t.now) texts.now)) }
+{
+    let mut prints = Vec::with_capacity(alloc, texts.len())?;
+    for text in texts {
+        let Some(print) = named_print(alloc, script, text)? else {
+            return Err(PrintsFault::Unprinted(String::from_str(alloc, text)?));
+        };
+        prints.push(print)?;
+    }
+    Ok(prints)
 }
