@@ -7,3 +7,5 @@ pub mod Leaving
 pub mod Forever
 mod Faulting
 mod Printing
+mod Several
+mod Meaning

@@ -4,3 +4,4 @@ pub mod Told
 pub mod Forever
 pub mod Faults
 pub mod Printed
+pub mod Seeking

@@ -3,8 +3,9 @@
 //! - `outcomes_text`: all that a script can come to, with the journal that leads to one outcome, or comes round
 //!   (`listing.rt`). What is told is a function of what was found (`specs/Told.antt`).
 //! - `outcomes_laws`: what that means of all runs.
-//! - `left_text`, `fault_text`, `printed_text`: who can never end any more, who faults, and whether a process prints a
-//!   value, with the journal that leads there (`left.rt`, `faults.rt`, `printed.rt`).
+//! - `left_text`, `fault_text`, `printed_text`, `prints_text`: who can never end any more, who faults, and whether
+//!   processes print values, with the journal that leads there (`left.rt`, `faults.rt`, `printed.rt`); `sought_laws`: what
+//!   that means of all runs (`sought.rt`).
 #![tactic(auto)]
 
 mod asked;
@@ -22,5 +23,5 @@ pub use crate::faults::fault_text;
 pub use crate::finding::Finding;
 pub use crate::left::left_text;
 pub use crate::listing::{OutcomesText, outcomes_laws, outcomes_text};
-pub use crate::printed::printed_text;
-pub use crate::sought::SoughtText;
+pub use crate::printed::{printed_text, prints_text};
+pub use crate::sought::{SoughtText, sought_laws};

@@ -1,4 +1,4 @@
-//! The text of whether a process prints a value.
+//! The text of whether a process prints a value, and of several values.
 
 ghost use Rattle.std.specs.Prelude.{◌≡◌, ◌≤◌, IfOk, IfSome, OnOk};
 ghost use Rattle.std.specs.List.{AllByRecursion};
@@ -9,7 +9,7 @@ ghost use Rattle.script.specs.Scripts.{script_of};
 ghost use Rattle.journal_text.specs.Journals.{HasLine};
 ghost use Rattle.journal_text.specs.Names.{named, names_of};
 ghost use Rattle.pcml_answers.specs.Prints.{IsProcess};
-ghost use Rattle.pcml_outcomes.specs.Printed.{IsPrinted, TellsPrinted, end_of, printed_finding, printed_line, printed_run, word_of};
+ghost use Rattle.pcml_outcomes.specs.Printed.{IsWithPart, IsPrinted, TellsPrinted, TellsPrints, end_of, graver, printed_finding, printed_line, printed_run, word_of};
 
 use crate::asked::journal_of;
 use crate::finding::Finding;
@@ -82,6 +82,19 @@ fn printed_finding(printed: &Printed) -> Finding
     }
 }
 
+/// The graver of two findings.
+fn graver(first: Finding, other: Finding) -> Finding
+    ensures { result ≡ graver first other }
+{
+    match (first, other) {
+        (Finding::Clear, other) => other,
+        (Finding::Open, Finding::Clear) => Finding::Open,
+        (Finding::Open, other) => other,
+        (Finding::Stranded, _) => Finding::Stranded,
+        (Finding::Stuck, _) => Finding::Stuck,
+    }
+}
+
 /// Whether the script's process prints the value.
 fn found_printed<W: Watch>(
     alloc: Global,
@@ -124,4 +137,43 @@ pub fn printed_text<W: Watch>(
         journal,
         finding: printed_finding(&found.printed),
     })
+}
+
+/// What was told, and behind it what is told of one more: its journal where none was kept, and the graver finding.
+fn with_part(told: SoughtText, part: SoughtText) -> Result<SoughtText, AllocError>
+    ensures { IfOk result (IsWithPart told part) }
+{
+    let mut text = told.text;
+    text.extend_from_slice(&part.text)?;
+    Ok(SoughtText {
+        text,
+        journal: told.journal.or(part.journal),
+        finding: graver(told.finding, part.finding),
+    })
+}
+
+/// Whether the processes print the values, each in turn: a line for each, and the journal that leads to the first that is
+/// printed.
+pub fn prints_text<W: Watch>(
+    alloc: Global,
+    script: &Script,
+    limit: usize,
+    prints: &[Print],
+    watch: &mut W,
+) -> Result<SoughtText, AllocError>
+    requires limit { 1 ≤ limit }
+    requires most { limit ≤ most_rows }
+    requires processes { AllByRecursion (IsProcess (script_of script.now)) prints.now }
+    ensures { IfOk result (TellsPrints (script_of script.now) limit prints.now) }
+{
+    let mut told = SoughtText {
+        text: Vec::new(alloc),
+        journal: None,
+        finding: Finding::Clear,
+    };
+    for print in prints {
+        let part = printed_text(alloc, script, limit, *print, watch)?;
+        told = with_part(told, part)?;
+    }
+    Ok(told)
 }
