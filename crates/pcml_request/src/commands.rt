@@ -213,10 +213,10 @@ fn faults_argument<'a>(alloc: Global) -> Result<Arg<'a>, AllocError> {
 fn never_argument<'a>(alloc: Global) -> Result<Arg<'a>, AllocError> {
     let never = Arg::new(alloc, "never")
         .long("never")
-        .action(ArgAction::Set)
+        .action(ArgAction::Append)
         .value_name("NAME=VALUE")
         .help(
-            "Prints whether some run has the process print the value, whether the run ends or not",
+            "Prints whether some run has the process print the value, whether the run ends or not; may be given again",
         );
     alone(never)?
         .conflicts_with("left")?
@@ -265,25 +265,30 @@ fn wanted_of<'a>(outcomes: &ArgMatches<'a>) -> Wanted<'a> {
 }
 
 /// What the words behind `outcomes` seek in place of outcomes.
-fn sought_of<'a>(outcomes: &ArgMatches<'a>) -> Option<Sought<'a>> {
-    match (outcomes.get_str("left"), outcomes.get_str("never")) {
-        (Some(names), _) => Some(Sought::Left(names)),
-        (None, Some(print)) => Some(Sought::Printed(print)),
-        (None, None) if outcomes.get_flag("faults") => Some(Sought::Fault),
-        (None, None) => None,
+fn sought_of<'a>(
+    alloc: Global,
+    outcomes: &ArgMatches<'a>,
+) -> Result<Option<Sought<'a>>, AllocError> {
+    match (outcomes.get_str("left"), outcomes.get_strs("never")) {
+        (Some(names), _) => Ok(Some(Sought::Left(names))),
+        (None, Some(prints)) => Ok(Some(Sought::Printed(prints.to_vec(alloc)?))),
+        (None, None) if outcomes.get_flag("faults") => Ok(Some(Sought::Fault)),
+        (None, None) => Ok(None),
     }
 }
 
-/// The request of `outcomes`, by the words behind it.
-fn outcomes_request<'a>(outcomes: &ArgMatches<'a>) -> Option<Request<'a>> {
-    if let Some(sought) = sought_of(outcomes) {
-        return Some(Request::Seek(Seeking {
-            script: outcomes.get_str("file")?,
-            limit: outcomes.get_one("limit")?,
-            sought,
-            journal: outcomes.get_str("journal"),
-        }));
-    }
+/// The request of `outcomes` that seeks this.
+fn seeking_request<'a>(outcomes: &ArgMatches<'a>, sought: Sought<'a>) -> Option<Request<'a>> {
+    Some(Request::Seek(Seeking {
+        script: outcomes.get_str("file")?,
+        limit: outcomes.get_one("limit")?,
+        sought,
+        journal: outcomes.get_str("journal"),
+    }))
+}
+
+/// The request of `outcomes` that lists them.
+fn search_request<'a>(outcomes: &ArgMatches<'a>) -> Option<Request<'a>> {
     Some(Request::Outcomes(Search {
         script: outcomes.get_str("file")?,
         rows: outcomes.get_one("rows"),
@@ -294,6 +299,17 @@ fn outcomes_request<'a>(outcomes: &ArgMatches<'a>) -> Option<Request<'a>> {
         journal: outcomes.get_str("journal"),
         of: outcomes.get_one("of"),
     }))
+}
+
+/// The request of `outcomes`, by the words behind it.
+fn outcomes_request<'a>(
+    alloc: Global,
+    outcomes: &ArgMatches<'a>,
+) -> Result<Option<Request<'a>>, AllocError> {
+    match sought_of(alloc, outcomes)? {
+        Some(sought) => Ok(seeking_request(outcomes, sought)),
+        None => Ok(search_request(outcomes)),
+    }
 }
 
 fn next_command<'a>(alloc: Global) -> Result<Command<'a>, AllocError> {
@@ -406,22 +422,45 @@ pub(crate) fn command_line<'a>(alloc: Global) -> Result<Command<'a>, AllocError>
     with(command, play_command(alloc))
 }
 
-/// The request of the subcommand of this name, by the words behind it.
-pub(crate) fn request_of<'a>(name: &str, behind: &ArgMatches<'a>) -> Option<Request<'a>> {
+fn check_request<'a>(check: &ArgMatches<'a>) -> Option<Request<'a>> {
+    Some(Request::Check(check.get_str("file")?))
+}
+
+fn meet_request<'a>(meet: &ArgMatches<'a>) -> Option<Request<'a>> {
+    Some(Request::Meet(meet.get_one("value")?))
+}
+
+fn play_request<'a>(play: &ArgMatches<'a>) -> Option<Request<'a>> {
+    Some(Request::Play(play.get_str("file")?))
+}
+
+/// The request of the subcommand of this name, but for `outcomes`, by the words behind it.
+fn plain_request<'a>(name: &str, behind: &ArgMatches<'a>) -> Option<Request<'a>> {
     match name {
         "run" => run_request(behind),
-        "check" => behind.get_str("file").map(|name| Request::Check(name)),
+        "check" => check_request(behind),
         "why" => why_request(behind),
         "chart" => chart_request(behind),
         "replay" => of_journal(behind, Question::Replay),
-        "outcomes" => outcomes_request(behind),
         "next" => next_request(behind),
         "stats" => of_journal(behind, Question::Stats),
         "explain" => explain_request(behind),
         "manual" => Some(Request::Explain(Topic::Manual)),
         "version" => Some(Request::Version),
-        "meet" => behind.get_one("value").map(|value| Request::Meet(value)),
-        "play" => behind.get_str("file").map(|name| Request::Play(name)),
+        "meet" => meet_request(behind),
+        "play" => play_request(behind),
         _ => None,
+    }
+}
+
+/// The request of the subcommand of this name, by the words behind it.
+pub(crate) fn request_of<'a>(
+    alloc: Global,
+    name: &str,
+    behind: &ArgMatches<'a>,
+) -> Result<Option<Request<'a>>, AllocError> {
+    match name {
+        "outcomes" => outcomes_request(alloc, behind),
+        _ => Ok(plain_request(name, behind)),
     }
 }

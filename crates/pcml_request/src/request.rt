@@ -33,17 +33,17 @@ pub struct Search<'a> {
 }
 
 /// What is sought in all runs: a process of these names (separated by commas, or `all`) that can never end any more, one
-/// that has faulted, or that the process of a name has printed a value, as `NAME=VALUE`.
-#[derive(Clone, Copy, Debug)]
+/// that has faulted, or for each of these texts, `NAME=VALUE`, that the process of the name has printed the value.
+#[derive(Debug, Drop)]
 pub enum Sought<'a> {
     Left(&'a str),
     Fault,
-    Printed(&'a str),
+    Printed(Vec<&'a str>),
 }
 
 /// What is sought in runs of any length of the script in a file, whether they end or not, where at most so many states
 /// are seen. The journal that leads there goes to a file, where one is named.
-#[derive(Clone, Copy, Debug)]
+#[derive(Debug, Drop)]
 pub struct Seeking<'a> {
     pub script: &'a str,
     pub limit: u32,
@@ -111,7 +111,7 @@ pub struct OfJournal<'a> {
 }
 
 /// What to print.
-#[derive(Clone, Copy, Debug)]
+#[derive(Debug, Drop)]
 pub enum Request<'a> {
     /// What comes of running a script.
     Run(Running<'a>),

@@ -84,7 +84,10 @@ fn objection(asked: &Request<'_>) -> Option<&'static str>
 }
 
 /// The request that can be answered, or what is wrong with it.
-fn answerable<'a>(matches: &ArgMatches<'a>) -> Result<Request<'a>, (ErrorKind, &'static str)>
+fn answerable<'a>(
+    alloc: Global,
+    matches: &ArgMatches<'a>,
+) -> Result<Request<'a>, (ErrorKind, &'static str)>
     ensures { IfOk result CanBeAnswered }
 {
     let nothing = (ErrorKind::MissingSubcommand, "nothing is asked for");
@@ -93,9 +96,12 @@ fn answerable<'a>(matches: &ArgMatches<'a>) -> Result<Request<'a>, (ErrorKind, &
     };
     let unknown = (
         ErrorKind::ValueValidation,
-        "it is no fault's number, and no word of these: unset, kind, range, shape, waiting, spent, unstarted, stranded, deadlock, nack, journal, stamp, tail, lawful, maximal, outcome, configuration",
+        "it is no fault's number, and no word of these: unset, kind, range, shape, waiting, spent, unstarted, stranded, left, faulted, printed, deadlock, nack, journal, stamp, tail, lawful, maximal, outcome, configuration",
     );
-    let asked = request_of(name, behind).ok_or(unknown)?;
+    let Ok(read) = request_of(alloc, name, behind) else {
+        return Err((ErrorKind::OutOfMemory, "out of memory"));
+    };
+    let asked = read.ok_or(unknown)?;
     match objection(&asked) {
         Some(why) => Err((ErrorKind::ValueValidation, why)),
         None => Ok(asked),
@@ -108,7 +114,7 @@ fn understood<'a>(alloc: Global, words: &'a [&'a str]) -> Result<Request<'a>, Er
 {
     let mut command = command_line(alloc)?;
     let matches = command.try_get_matches_from_mut(words)?;
-    match answerable(&matches) {
+    match answerable(alloc, &matches) {
         Ok(asked) => Ok(asked),
         Err((kind, why)) => Err(command.error(kind, why)?),
     }

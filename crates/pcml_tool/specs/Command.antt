@@ -3,7 +3,6 @@ use Rattle.std.specs.Prelude.{◌≡◌, ◌≢◌, ◌⊎◌, ℕ, Bool, true, 
 use Rattle.std.specs.Io.KnownBytes.{Appends}
 use Rattle.std.specs.Global.{Vec}
 use Rattle.std.specs.Option.{option_copied, option_map}
-use Rattle.std.specs.String.{string_bytes}
 use Rattle.pcml_request.specs.declared.request.Request.{Request}
 use Rattle.pcml_request.specs.declared.request.Request.TheVariants.{Meet, Outcomes, Play, Check, Explain, Run, Seek, Version, WhyScript, WhyShort}
 use Rattle.pcml_request.specs.declared.request.Request.TheVariants as request
@@ -20,9 +19,9 @@ use Rattle.pcml_request.specs.Requests.{all_rows}
 use Rattle.pcml_explain.specs.Topics as topics
 use Rattle.pcml_outcomes.specs.Faults.{TellsFaults}
 use Rattle.pcml_outcomes.specs.Left.{TellsLeft}
-use Rattle.pcml_outcomes.specs.Printed.{TellsPrinted}
+use Rattle.pcml_outcomes.specs.Printed.{TellsPrints}
 use Rattle.pcml_answers.specs.Needs.{MisnamesAny, Names}
-use Rattle.pcml_answers.specs.Prints.{NamesPrint}
+use Rattle.pcml_answers.specs.Prints.{MisnamesPrints, NamePrints}
 use Rattle.pcml_answers.specs.declared.prints.Print.{Print}
 use Rattle.pcml_files.specs.Files.{Fits, IsTooLarge}
 use Rattle.pcml_files.specs.declared.source.SourceFault.{SourceFault}
@@ -165,11 +164,11 @@ pub record AnswersOutcomes (Holds Keeps : Files) (search : Search) (verdict : Ve
   pub so : verdict ≡ verdict_of (judged asked.told (finding asked found) stranded) (is_some search.of) (is_some lines)
   pub is : text ≡ outcomes_text (named s) search.rows asked found stranded
 
--- what is told of what is sought: who of the processes that are named is left behind, who faults, or whether one prints a value
+-- what is told of what is sought: who of the processes that are named is left behind, who faults, or whether values are printed
 abbrev pub TellsSought : Script → ℕ → Sought → SoughtText → Type 0
 TellsSought s limit (sought.Left names) told = (marks : List Bool) × Names s names.now marks × TellsLeft s limit marks told
 TellsSought s limit sought.Fault told = TellsFaults s limit told
-TellsSought s limit (sought.Printed text) told = (print : Print) × NamesPrint s text.now print × TellsPrinted s limit print told
+TellsSought s limit (sought.Printed texts) told = (prints : List Print) × NamePrints s (map (λ t. t.now) texts.items) prints × TellsPrints s limit prints told
 
 -- its text, and the journal that leads there, in a file where one is named
 pub record AnswersSought (Holds Keeps : Files) (seeking : Seeking) (verdict : Verdict) (text : List ℕ) : Type 0 where
@@ -349,11 +348,11 @@ FailsOutcomes Holds search (faults.Script fault) = FailsScript Holds search.scri
 FailsOutcomes Holds search (faults.Names fault) = OfScript Holds search.script.now (λ s. FailsAsked s search (faults.Names fault))
 FailsOutcomes Holds search fault = ⊥
 
--- what a fault says of what is sought in a script: that of a name, or that the text names no process and value
+-- what a fault says of what is sought in a script: that of a name, or that one of the texts names no process and value
 abbrev pub FailsSoughtIn : Script → Sought → Fault → Type 0
 FailsSoughtIn s sought faults.Memory = ⊤
 FailsSoughtIn s (sought.Left names) (faults.Names fault) = FailsNamed s (Some names.now) (faults.Names fault)
-FailsSoughtIn s (sought.Printed text) (faults.Unprinted its) = string_bytes its ≡ text.now
+FailsSoughtIn s (sought.Printed texts) (faults.Prints fault) = MisnamesPrints s (map (λ t. t.now) texts.items) fault
 FailsSoughtIn s sought fault = ⊥
 
 -- what a fault says where something is sought: that of the script, of a name, or that the journal's file was not written
@@ -362,7 +361,7 @@ FailsSought Holds seeking faults.Memory = ⊤
 FailsSought Holds seeking (faults.File fault) = FailsFile seeking.journal fault
 FailsSought Holds seeking (faults.Script fault) = FailsScript Holds seeking.script.now fault
 FailsSought Holds seeking (faults.Names fault) = OfScript Holds seeking.script.now (λ s. FailsSoughtIn s seeking.sought (faults.Names fault))
-FailsSought Holds seeking (faults.Unprinted its) = OfScript Holds seeking.script.now (λ s. FailsSoughtIn s seeking.sought (faults.Unprinted its))
+FailsSought Holds seeking (faults.Prints fault) = OfScript Holds seeking.script.now (λ s. FailsSoughtIn s seeking.sought (faults.Prints fault))
 FailsSought Holds seeking fault = ⊥
 
 -- what a fault says of the request

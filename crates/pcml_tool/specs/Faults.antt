@@ -2,6 +2,7 @@
 use Rattle.std.specs.Prelude.{ℕ, None, Option, Some}
 use Rattle.journal_text.specs.declared.JournalFault.TheVariants as journals
 use Rattle.pcml_answers.specs.declared.need.NamesFault.TheVariants as names
+use Rattle.pcml_answers.specs.declared.prints.PrintsFault.TheVariants as prints
 use Rattle.pcml_files.specs.declared.source.SourceFault.{SourceFault}
 use Rattle.pcml_files.specs.declared.source.SourceFault.TheVariants as files
 use Rattle.pcml_texts.specs.declared.chart.ChartFault.TheVariants as charts
@@ -60,7 +61,8 @@ number_of (faults.Chart (charts.NoRun line)) = None
 number_of (faults.Chart (charts.Unnamed name)) = None
 number_of (faults.Names names.Memory) = Some 1
 number_of (faults.Names (names.Unnamed name)) = None
-number_of (faults.Unprinted text) = None
+number_of (faults.Prints prints.Memory) = Some 1
+number_of (faults.Prints (prints.Unprinted text)) = None
 number_of (faults.Meet meets.Memory) = Some 1
 number_of (faults.Meet meets.NoThread) = Some 6
 number_of (faults.Play plays.Memory) = Some 1
@@ -73,5 +75,5 @@ number_of (faults.Seasons fault) = Some (number_of_seasons fault)
 abbrev pub status_of : Fault → ℕ
 status_of (faults.Names (names.Unnamed name)) = 2
 status_of (faults.Chart (charts.Unnamed name)) = 2
-status_of (faults.Unprinted text) = 2
+status_of (faults.Prints (prints.Unprinted text)) = 2
 status_of fault = 1

@@ -8,7 +8,7 @@ ghost use Rattle.pcml_tool.specs.declared.fault.Fault.TheVariants as faults;
 
 use crate::{ChartFault, MeetFault, PlayFault};
 use journal_text::JournalFault;
-use pcml_answers::NamesFault;
+use pcml_answers::{NamesFault, PrintsFault};
 use pcml_files::{SourceFault, Unwritten};
 use runtime::{RunFault, SeasonFault};
 use script::ScriptFault;
@@ -34,8 +34,8 @@ pub enum Fault {
     Chart(ChartFault),
     /// Names of which one is no process's.
     Names(NamesFault),
-    /// A text that names no process with a value.
-    Unprinted(String),
+    /// Texts of which one names no process with a value.
+    Prints(PrintsFault),
     /// A pair that did not meet.
     Meet(MeetFault),
     /// A schedule that cannot be played.
@@ -53,7 +53,7 @@ impl Fault {
     {
         match self {
             Fault::Names(NamesFault::Unnamed(_)) | Fault::Chart(ChartFault::Unnamed(_)) => 2,
-            Fault::Unprinted(_) => 2,
+            Fault::Prints(PrintsFault::Unprinted(_)) => 2,
             _ => 1,
         }
     }
@@ -76,7 +76,8 @@ impl Fault {
             Fault::Chart(ChartFault::NoRun(_) | ChartFault::Unnamed(_)) => None,
             Fault::Names(NamesFault::Memory) => Some(1),
             Fault::Names(NamesFault::Unnamed(_)) => None,
-            Fault::Unprinted(_) => None,
+            Fault::Prints(PrintsFault::Memory) => Some(1),
+            Fault::Prints(PrintsFault::Unprinted(_)) => None,
             Fault::Meet(MeetFault::Memory) => Some(1),
             Fault::Meet(MeetFault::NoThread) => Some(6),
             Fault::Play(PlayFault::Memory) => Some(1),
@@ -183,7 +184,7 @@ impl fmt::Display for Fault {
         if let Some(name) = self.unnamed() {
             return write!(f, "error: no process is named '{name}'");
         }
-        if let Fault::Unprinted(text) = self {
+        if let Fault::Prints(PrintsFault::Unprinted(text)) = self {
             return write!(
                 f,
                 "error: '{text}' is no process's name, = and a value as print writes it"
@@ -255,6 +256,14 @@ impl From<NamesFault> for Fault {
 
     fn from(fault: NamesFault) -> Fault {
         Fault::Names(fault)
+    }
+}
+
+impl From<PrintsFault> for Fault {
+    ghost from_gives = { λ its fault. fault ≡ faults.Prints its };
+
+    fn from(fault: PrintsFault) -> Fault {
+        Fault::Prints(fault)
     }
 }
 

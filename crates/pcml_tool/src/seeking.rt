@@ -14,9 +14,9 @@ use crate::fault::Fault;
 use crate::from_files::read_script;
 use crate::searching::verdict_of;
 use outcomes::Watch;
-use pcml_answers::{named_print, named_processes};
+use pcml_answers::{named_prints, named_processes};
 use pcml_files::Source;
-use pcml_outcomes::{Finding, SoughtText, fault_text, left_text, printed_text};
+use pcml_outcomes::{Finding, SoughtText, fault_text, left_text, prints_text};
 use pcml_request::{Seeking, Sought};
 use script::Script;
 use std::alloc::Global;
@@ -29,7 +29,7 @@ const CUT: &str =
 const ALWAYS_LEFT: &str =
     "left: a process that never ends by itself is always left behind; --need asks who can still move\n";
 
-fn advice_of(sought: Sought<'_>, finding: Finding) -> Advice {
+fn advice_of(sought: &Sought<'_>, finding: Finding) -> Advice {
     match (finding, sought) {
         (Finding::Open, _) => Advice::Text(CUT),
         (Finding::Stuck, Sought::Left(_)) => Advice::Text(ALWAYS_LEFT),
@@ -60,7 +60,7 @@ fn keep_sought<S: Source>(
     Ok(Answer {
         verdict: verdict_of(finding, false, is_there),
         text,
-        advice: advice_of(seeking.sought, finding),
+        advice: advice_of(&seeking.sought, finding),
     })
 }
 
@@ -76,17 +76,15 @@ fn told_of<W: Watch>(
     ensures fault { IfErr result (FailsSoughtIn (script_of script.now) seeking.now.sought) }
 {
     let limit = seeking.limit as usize;
-    match seeking.sought {
+    match &seeking.sought {
         Sought::Left(names) => {
             let marks = named_processes(alloc, script, names)?;
             Ok(left_text(alloc, script, limit, &marks, watch)?)
         }
         Sought::Fault => Ok(fault_text(alloc, script, limit, watch)?),
-        Sought::Printed(text) => {
-            let Some(print) = named_print(alloc, script, text)? else {
-                return Err(Fault::Unprinted(String::from_str(alloc, text)?));
-            };
-            Ok(printed_text(alloc, script, limit, print, watch)?)
+        Sought::Printed(texts) => {
+            let prints = named_prints(alloc, script, texts)?;
+            Ok(prints_text(alloc, script, limit, &prints, watch)?)
         }
     }
 }
