@@ -26,7 +26,7 @@
 #include <stdint.h>
 
 /* Two digits for each of the three numbers of the version: compare it with pcml_check_version(). */
-#define PCML_CHECK_VERSION 10200
+#define PCML_CHECK_VERSION 10300
 
 #ifdef __cplusplus
 extern "C" {
@@ -34,12 +34,13 @@ extern "C" {
 
 /* What came of a call: below 16 an answer, from 16 on a refusal. */
 enum pcml_code {
-    PCML_DONE = 0,           /* the script, the journal or the outcomes are as they should be; each call says how */
-    PCML_OPEN = 1,           /* the journal is a run that goes on; or what was asked of outcomes is not known */
+    PCML_DONE = 0,           /* the script, the journal or all runs are as they should be; each call says how */
+    PCML_OPEN = 1,           /* the journal is a run that goes on; or what was asked of outcomes or runs is not known */
     PCML_UNLAWFUL = 2,       /* the journal is no run: `line` is the first with which it is none */
     PCML_STUCK = 3,          /* some outcome leaves a process that has to end waiting, faulted or never started */
     PCML_NOT_A_SCRIPT = 4,   /* the text is no script, and `text` tells why */
     PCML_STRANDED = 5,       /* no outcome that was found does, but some run leads to where one can never move any more */
+    PCML_FOUND = 6,          /* some run, whether it ends or not, leads to what was asked about */
 
     PCML_OUT_OF_MEMORY = 16, /* malloc gave none */
     PCML_BAD_SCRIPT = 17,    /* the script is none: `fault` is 11 to 16, `line` where it stands (0 for fault 16) */
@@ -48,7 +49,8 @@ enum pcml_code {
     PCML_BAD_LIMIT = 20,     /* `limit` is out of range */
     PCML_BAD_FORM = 21,      /* `form` is neither PCML_SVG nor PCML_MERMAID */
     PCML_BAD_NAMES = 22,     /* the names are not UTF-8 */
-    PCML_NO_PROCESS = 23     /* no process has a name that was given; `text` is the first such name */
+    PCML_NO_PROCESS = 23,    /* no process has a name that was given; `text` is the first such name */
+    PCML_NO_PRINT = 24       /* `text`, which was given, names no process and value */
 };
 
 enum pcml_form { PCML_SVG = 0, PCML_MERMAID = 1 };
@@ -109,6 +111,34 @@ pcml_check_answer pcml_check_journal(const char *script, size_t script_len, cons
 pcml_check_answer pcml_outcomes(const char *script, size_t script_len, uint32_t rows, uint32_t limit,
                                 const char *need, size_t need_len, const char *only, size_t only_len, char *text,
                                 size_t room);
+
+/*
+ * Three questions of runs of any length, whether they end or not. Each looks at `limit` states at most, 1 to 4194304, and
+ * stops at the first that answers it:
+ *   PCML_DONE            no run leads there: all states were seen
+ *   PCML_FOUND           some run does
+ *   PCML_OPEN            not known: the search was cut
+ *   PCML_BAD_LIMIT, PCML_BAD_SCRIPT, PCML_OUT_OF_MEMORY
+ */
+
+/*
+ * May a process of `names` (with commas between, or all) come to where it can never end any more? The text is that of
+ * `pcml outcomes --left`. Who never ends by itself is always left behind.
+ *   PCML_BAD_NAMES, PCML_NO_PROCESS, and as above
+ */
+pcml_check_answer pcml_left(const char *script, size_t script_len, uint32_t limit, const char *names, size_t names_len,
+                            char *text, size_t room);
+
+/* May a process fault? The text is that of `pcml outcomes --faults`. */
+pcml_check_answer pcml_faults(const char *script, size_t script_len, uint32_t limit, char *text, size_t room);
+
+/*
+ * May a process print a value? `print` is NAME=VALUE, with the value as `print` writes it. The text is that of
+ * `pcml outcomes --never`.
+ *   PCML_BAD_NAMES, PCML_NO_PRINT, and as above
+ */
+pcml_check_answer pcml_never(const char *script, size_t script_len, uint32_t limit, const char *print, size_t print_len,
+                             char *text, size_t room);
 
 /*
  * The journal as a chart: the text is that of `pcml chart`, of the commits with a stamp from `from` to `to`

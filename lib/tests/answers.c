@@ -35,6 +35,13 @@ static pcml_check_answer judge(const char *script, const char *journal, uint32_t
 static pcml_check_answer outcomes(const char *script, uint32_t rows, uint32_t limit, const char *need, const char *only) {
     return pcml_outcomes(TEXT(script), rows, limit, TEXT(need), TEXT(only), text, ROOM);
 }
+static pcml_check_answer left_behind(const char *script, uint32_t limit, const char *names) {
+    return pcml_left(TEXT(script), limit, TEXT(names), text, ROOM);
+}
+static pcml_check_answer faults(const char *script, uint32_t limit) { return pcml_faults(TEXT(script), limit, text, ROOM); }
+static pcml_check_answer never(const char *script, uint32_t limit, const char *print) {
+    return pcml_never(TEXT(script), limit, TEXT(print), text, ROOM);
+}
 static pcml_check_answer chart(const char *journal, uint32_t rows, const char *only, uint32_t from, uint32_t to, uint32_t form) {
     return pcml_chart(TEXT(PAIR), TEXT(journal), rows, TEXT(only), from, to, form, text, ROOM);
 }
@@ -128,6 +135,34 @@ static void found(void) {
     TOLD(outcomes(PAIR, 256, 9, "a,", ""), PCML_NO_PROCESS, 0, 0, "");
 }
 
+/* What some run may lead to, beside a clock that goes on for ever. */
+static void questions(void) {
+    static const char CLOCK[] = "process clock { forever { sync always (); } } process a { x <- sync choose [always (1), always (2)]; print x; let y = 2 - x; let z = y - 1; }";
+    TOLD(never(CLOCK, 9, "a=2"), PCML_FOUND, 0, 0, "printed a 2 states 1\n");
+    TOLD(never(CLOCK, 9, "a=3"), PCML_DONE, 0, 0, "never a 3 states 3 all\n");
+    TOLD(never(CLOCK, 1, "a=3"), PCML_OPEN, 0, 0, "never a 3 states 1 cut\n");
+    TOLD(never(CLOCK, 9, "a=03"), PCML_NO_PRINT, 0, 0, "a=03");
+    TOLD(never(CLOCK, 9, "b=3"), PCML_NO_PRINT, 0, 0, "b=3");
+    TOLD(never(CLOCK, 9, ""), PCML_NO_PRINT, 0, 0, "");
+    TOLD(never(CLOCK, 9, "a=\xff"), PCML_BAD_NAMES, 0, 0, "");
+    TOLD(never(CLOCK, 0, "b=3"), PCML_BAD_LIMIT, 0, 0, "");
+    TOLD(never("process a {\nprint x; }", 9, "b=3"), PCML_BAD_SCRIPT, 12, 2, "");
+    TOLD(faults(CLOCK, 9), PCML_FOUND, 0, 0, "fault a states 3\n");
+    TOLD(faults(CLOCK, 1), PCML_OPEN, 0, 0, "fault unknown states 1 cut\n");
+    TOLD(faults(BESIDE, 9), PCML_DONE, 0, 0, "fault none states 1 all\n");
+    TOLD(faults(BESIDE, 4194304), PCML_DONE, 0, 0, "fault none states 1 all\n");
+    TOLD(faults(BESIDE, 4194305), PCML_BAD_LIMIT, 0, 0, "");
+    TOLD(faults("channel", 9), PCML_BAD_SCRIPT, 11, 1, "");
+    TOLD(left_behind(BESIDE, 9, "dead"), PCML_FOUND, 0, 0, "left dead states 1\n");
+    TOLD(left_behind(PAIR, 9, "all"), PCML_DONE, 0, 0, "left none states 2 all\n");
+    TOLD(left_behind(PAIR, 1, "a,b"), PCML_OPEN, 0, 0, "left unknown states 1 cut\n");
+    TOLD(left_behind(PAIR, 9, "a,nobody"), PCML_NO_PROCESS, 0, 0, "nobody");
+    TOLD(left_behind(PAIR, 9, ""), PCML_NO_PROCESS, 0, 0, "");
+    TOLD(left_behind(PAIR, 9, "\xff"), PCML_BAD_NAMES, 0, 0, "");
+    TOLD(left_behind(PAIR, 0, "all"), PCML_BAD_LIMIT, 0, 0, "");
+    TOLD(left_behind("channel", 9, "all"), PCML_BAD_SCRIPT, 11, 1, "");
+}
+
 static void charts(void) {
     TOLD(chart("1 a.0.0 -> b.0.0 c (42)\n", 0, "", 1, 9, PCML_SVG), PCML_BAD_ROWS, 0, 0, "");
     TOLD(chart(JOURNAL, 67107841, "", 1, 9, PCML_SVG), PCML_BAD_ROWS, 0, 0, "");
@@ -148,6 +183,9 @@ static pcml_check_answer a_script(char *into, size_t room) { return pcml_check(T
 static pcml_check_answer a_mistake(char *into, size_t room) { return pcml_why_script(TEXT("process a { sync receive c; }"), into, room); }
 static pcml_check_answer a_journal(char *into, size_t room) { return pcml_check_journal(TEXT(PAIR), TEXT(JOURNAL), 9, into, room); }
 static pcml_check_answer a_search(char *into, size_t room) { return pcml_outcomes(TEXT(CHOICE), 9, 99, "", 0, "", 0, into, room); }
+static pcml_check_answer a_fault(char *into, size_t room) { return pcml_faults(TEXT(PAIR), 99, into, room); }
+static pcml_check_answer a_print(char *into, size_t room) { return pcml_never(TEXT(PAIR), 99, "b=42", 4, into, room); }
+static pcml_check_answer a_loser(char *into, size_t room) { return pcml_left(TEXT(PAIR), 99, "all", 3, into, room); }
 static pcml_check_answer a_picture(char *into, size_t room) {
     return pcml_chart(TEXT(PAIR), TEXT(JOURNAL), 9, "", 0, 1, 9, PCML_SVG, into, room);
 }
@@ -176,8 +214,9 @@ int main(void) {
     scripts();
     journals();
     found();
+    questions();
     charts();
-    call *calls[] = {a_script, a_mistake, a_journal, a_search, a_picture, a_name, a_refusal};
+    call *calls[] = {a_script, a_mistake, a_journal, a_search, a_fault, a_print, a_loser, a_picture, a_name, a_refusal};
     for (size_t i = 0; i < sizeof calls / sizeof *calls; i++) buffers(calls[i]);
     printf("%d answers compared\n", compared);
     return wrong != 0;

@@ -7,12 +7,14 @@ use Rattle.journal_text.specs.declared.JournalFault.{JournalFault}
 use Rattle.journal_text.specs.declared.JournalFault.TheVariants as journals
 use Rattle.pcml_answers.specs.declared.need.NamesFault.{NamesFault}
 use Rattle.pcml_answers.specs.declared.need.NamesFault.TheVariants as names
+use Rattle.pcml_answers.specs.declared.prints.PrintsFault.{PrintsFault}
+use Rattle.pcml_answers.specs.declared.prints.PrintsFault.TheVariants as prints
 use Rattle.pcml_check_c.specs.declared.answer.Answer.{Answer}
 use Rattle.pcml_check_c.specs.declared.told.Code.{Code}
-use Rattle.pcml_check_c.specs.declared.told.Code.TheVariants.{Done, NoScript, Open, Stranded, Stuck, Unlawful}
+use Rattle.pcml_check_c.specs.declared.told.Code.TheVariants.{Done, Found, NoScript, Open, Stranded, Stuck, Unlawful}
 use Rattle.pcml_check_c.specs.declared.told.Told.{Told}
 use Rattle.pcml_check_c.specs.declared.refusal.Refusal.{Refusal}
-use Rattle.pcml_check_c.specs.declared.refusal.Refusal.TheVariants.{BadLine, Form, Limit, Memory, NoText, Rows, Script, Unnamed}
+use Rattle.pcml_check_c.specs.declared.refusal.Refusal.TheVariants.{BadLine, Form, Limit, Memory, NoText, Rows, Script, Unnamed, Unprinted}
 
 -- NUMBERS
 
@@ -23,6 +25,7 @@ code_of Unlawful = 2
 code_of Stuck = 3
 code_of NoScript = 4
 code_of Stranded = 5
+code_of Found = 6
 
 abbrev pub code_of_refusal : Refusal → ℕ
 code_of_refusal Memory = 16
@@ -34,6 +37,7 @@ code_of_refusal Limit = 20
 code_of_refusal Form = 21
 code_of_refusal NoText = 22
 code_of_refusal (Unnamed name) = 23
+code_of_refusal (Unprinted text) = 24
 
 -- the numbers that the program tells the faults of scripts by
 abbrev pub fault_of_script : ScriptFault → ℕ
@@ -64,9 +68,10 @@ line_of (Script fault) = line_of_script fault
 line_of (BadLine line) = line
 line_of refusal = 0
 
--- the name that no process has
+-- the name that no process has, or the text that names no process and value
 abbrev pub text_of : Refusal → List ℕ
 text_of (Unnamed name) = string_bytes name
+text_of (Unprinted text) = string_bytes text
 text_of refusal = []
 
 -- FAULTS OF OTHER CRATES
@@ -78,6 +83,10 @@ of_journal (journals.BadLine line) = BadLine line
 abbrev pub of_names : NamesFault → Refusal
 of_names names.Memory = Memory
 of_names (names.Unnamed name) = Unnamed name
+
+abbrev pub of_prints : PrintsFault → Refusal
+of_prints prints.Memory = Memory
+of_prints (prints.Unprinted text) = Unprinted text
 
 -- WHAT GOES OUT
 

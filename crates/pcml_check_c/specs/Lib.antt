@@ -3,3 +3,4 @@ pub mod Scripts
 pub mod Names
 pub mod Journals
 pub mod Outcomes
+pub mod Seeking

@@ -11,6 +11,7 @@ ghost use Rattle.std.specs.Prelude.{◌≡◌, IfErr, IfOk, Result};
 ghost use Rattle.pcml_check_c.specs.Answers.{IsHandedOut};
 ghost use Rattle.pcml_check_c.specs.Journals.{IsDrawn, IsJudged, RefusesChart, RefusesJournal};
 ghost use Rattle.pcml_check_c.specs.Outcomes.{IsSearched, RefusesOutcomes};
+ghost use Rattle.pcml_check_c.specs.Seeking.{IsFaultSought, IsLeftSought, IsPrintSought, RefusesFaults, RefusesLeft, RefusesPrint};
 ghost use Rattle.pcml_check_c.specs.Scripts.{IsCounted, IsExplained, RefusesMemory, RefusesScript};
 ghost use Rattle.pcml_check_c.specs.declared.refusal.Refusal.{Refusal};
 ghost use Rattle.pcml_check_c.specs.declared.told.Told.{Told};
@@ -21,6 +22,7 @@ mod names;
 mod refusal;
 mod scripts;
 mod searching;
+mod seeking;
 mod told;
 
 pub use crate::answer::Answer;
@@ -29,15 +31,16 @@ use crate::journals::{drawn, judged};
 pub use crate::refusal::Refusal;
 use crate::scripts::{counted, explained};
 use crate::searching::searched;
+use crate::seeking::{faults_sought, left_sought, print_sought};
 pub use crate::told::{Code, Told};
 use std::alloc::Global;
 
 /// The version of the library, in two digits for each of its three numbers.
 #[unsafe(no_mangle)]
 pub extern "C" fn pcml_check_version() -> u32
-    ensures { result ≡ 10200 }
+    ensures { result ≡ 10300 }
 {
-    10200
+    10300
 }
 
 /// How many processes and channels the script has, or its first fault.
@@ -90,6 +93,46 @@ pub extern "C" fn pcml_outcomes(
         × IsHandedOut told text.old text.new result }
 {
     hand_out(searched(alloc, script, rows, limit, need, only), text)
+}
+
+/// Whether some run, whether it ends or not, leads to where a process of these names can never end any more, as far as so
+/// many states show it.
+#[unsafe(no_mangle)]
+pub extern "C" fn pcml_left(
+    alloc: Global,
+    script: &[u8],
+    limit: u32,
+    names: &[u8],
+    text: &mut [u8],
+) -> Answer
+    ensures { (told : Result Told Refusal) × IfOk told (IsLeftSought script.now limit names.now) × IfErr told (RefusesLeft script.now limit names.now)
+        × IsHandedOut told text.old text.new result }
+{
+    hand_out(left_sought(alloc, script, limit, names), text)
+}
+
+/// Whether some run, whether it ends or not, leads to a process that has faulted.
+#[unsafe(no_mangle)]
+pub extern "C" fn pcml_faults(alloc: Global, script: &[u8], limit: u32, text: &mut [u8]) -> Answer
+    ensures { (told : Result Told Refusal) × IfOk told (IsFaultSought script.now limit) × IfErr told (RefusesFaults script.now limit)
+        × IsHandedOut told text.old text.new result }
+{
+    hand_out(faults_sought(alloc, script, limit), text)
+}
+
+/// Whether in some run, whether it ends or not, the process of a name prints a value, both as `NAME=VALUE`.
+#[unsafe(no_mangle)]
+pub extern "C" fn pcml_never(
+    alloc: Global,
+    script: &[u8],
+    limit: u32,
+    print: &[u8],
+    text: &mut [u8],
+) -> Answer
+    ensures { (told : Result Told Refusal) × IfOk told (IsPrintSought script.now limit print.now) × IfErr told (RefusesPrint script.now limit print.now)
+        × IsHandedOut told text.old text.new result }
+{
+    hand_out(print_sought(alloc, script, limit, print), text)
 }
 
 /// The chart of the journal's commits with a stamp from one to another, as a picture or as a diagram. Where names are

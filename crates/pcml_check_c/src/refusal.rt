@@ -1,11 +1,11 @@
 //! Why a call is refused.
 
 ghost use Rattle.std.specs.Prelude.{◌≡◌};
-ghost use Rattle.pcml_check_c.specs.Answers.{code_of_refusal, fault_of, fault_of_script, line_of, line_of_script, of_journal, of_names, text_of};
+ghost use Rattle.pcml_check_c.specs.Answers.{code_of_refusal, fault_of, fault_of_script, line_of, line_of_script, of_journal, of_names, of_prints, text_of};
 ghost use Rattle.pcml_check_c.specs.declared.refusal.Refusal.TheVariants.{Memory, Script};
 
 use journal_text::JournalFault;
-use pcml_answers::NamesFault;
+use pcml_answers::{NamesFault, PrintsFault};
 use script::ScriptFault;
 use std::alloc::AllocError;
 
@@ -27,6 +27,8 @@ pub enum Refusal {
     NoText,
     /// The first of the names that no process has.
     Unnamed(String),
+    /// A text that names no process and value.
+    Unprinted(String),
 }
 
 fn fault_of_script(fault: &ScriptFault) -> u32
@@ -70,6 +72,7 @@ impl Refusal {
             Refusal::Form => 21,
             Refusal::NoText => 22,
             Refusal::Unnamed(_) => 23,
+            Refusal::Unprinted(_) => 24,
         }
     }
 
@@ -98,7 +101,7 @@ impl Refusal {
         ensures { result.now ≡ text_of self.now }
     {
         match self {
-            Refusal::Unnamed(name) => name.as_bytes(),
+            Refusal::Unnamed(name) | Refusal::Unprinted(name) => name.as_bytes(),
             _ => b"",
         }
     }
@@ -138,6 +141,17 @@ impl From<NamesFault> for Refusal {
         match fault {
             NamesFault::Memory => Refusal::Memory,
             NamesFault::Unnamed(name) => Refusal::Unnamed(name),
+        }
+    }
+}
+
+impl From<PrintsFault> for Refusal {
+    ghost from_gives = { λ prints refusal. refusal ≡ of_prints prints };
+
+    fn from(fault: PrintsFault) -> Refusal {
+        match fault {
+            PrintsFault::Memory => Refusal::Memory,
+            PrintsFault::Unprinted(text) => Refusal::Unprinted(text),
         }
     }
 }

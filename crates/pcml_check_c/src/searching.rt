@@ -15,7 +15,7 @@ use std::alloc::Global;
 /// The most rows of a process.
 const MOST_ROWS: u32 = 1024;
 /// The most configurations that are looked at.
-const MOST_CONFIGURATIONS: u32 = 4194304;
+pub(crate) const MOST_CONFIGURATIONS: u32 = 4194304;
 
 fn code_of_finding(finding: Finding) -> Code
     ensures { result ≡ code_of_finding finding }

@@ -19,6 +19,8 @@ pub enum Code {
     NoScript,
     /// It is in none that was found, but a process that has to end is stranded in a run that goes on.
     Stranded,
+    /// Some run leads to what was sought.
+    Found,
 }
 
 impl Code {
@@ -33,6 +35,7 @@ impl Code {
             Code::Stuck => 3,
             Code::NoScript => 4,
             Code::Stranded => 5,
+            Code::Found => 6,
         }
     }
 }

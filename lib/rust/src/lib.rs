@@ -2,7 +2,8 @@
 //!
 //! A *script* says what processes may do, a *journal* which rendezvous there were. [`check_journal`] judges whether a
 //! journal is a run of a script: write one in a test of a program of your own, and have it judged. [`outcomes`] tells
-//! all that a script can come to, and whether some process can be left waiting.
+//! all that a script can come to, and whether some process can be left waiting; [`left`], [`faults`] and [`never`] ask of
+//! runs that go on for ever too.
 //!
 //! The answers are those of the program `pcml`, whose library this calls. What is proved of it says `docs/LIBRARY.md`;
 //! of the Rust code here nothing is.
@@ -49,6 +50,8 @@ pub enum Refusal {
     BadLimit,
     /// No process has this name, the first such of those that were given.
     NoProcess(String),
+    /// This text, which was given, names no process and value.
+    NoPrint(String),
 }
 
 impl fmt::Display for Refusal {
@@ -64,6 +67,7 @@ impl fmt::Display for Refusal {
             Refusal::BadRows => write!(f, "the number of rows is out of range"),
             Refusal::BadLimit => write!(f, "the number of configurations is out of range"),
             Refusal::NoProcess(name) => write!(f, "no process is named '{name}'"),
+            Refusal::NoPrint(text) => write!(f, "'{text}' names no process and value"),
         }
     }
 }
@@ -140,6 +144,26 @@ pub struct Outcomes {
     pub text: String,
 }
 
+/// Whether some run leads to what was asked about, whether it ends or goes on for ever.
+#[derive(Clone, Copy, Debug, PartialEq, Eq)]
+pub enum Answered {
+    /// No run does: all states were seen.
+    Never,
+    /// Some run does.
+    Found,
+    /// It is not known: there are more states than may be seen.
+    Unknown,
+}
+
+/// What is told of a question about all runs.
+#[derive(Clone, Debug, PartialEq, Eq)]
+pub struct Reached {
+    /// What that says.
+    pub answered: Answered,
+    /// What `pcml outcomes` prints with `--left`, `--faults` or `--never`.
+    pub text: String,
+}
+
 /// As what a chart is drawn.
 #[derive(Clone, Copy, Debug, PartialEq, Eq)]
 pub enum Form {
@@ -163,7 +187,7 @@ pub enum Chart {
 
 /// Whether the library that is linked is of this crate's version.
 pub fn is_same_version() -> bool {
-    raw::version() == 10_200
+    raw::version() == 10_300
 }
 
 /// Tells how many processes and channels the script has.
@@ -230,6 +254,31 @@ pub fn outcomes(script: impl AsRef<[u8]>, asked: &Search<'_>) -> Result<Outcomes
     Ok(Outcomes { finding, text })
 }
 
+/// Tells whether a process of these names (with commas between, or `all`) may come to where it can never end any more, by
+/// at most `limit` states, 1 to 4,194,304. Who never ends by itself is always left behind.
+///
+/// # Errors
+/// [`Refusal::BadLimit`], [`Refusal::BadScript`], [`Refusal::NoProcess`], [`Refusal::OutOfMemory`].
+pub fn left(script: impl AsRef<[u8]>, limit: u32, names: &str) -> Result<Reached, Refusal> {
+    reached(|text| raw::left(script.as_ref(), limit, names.as_bytes(), text))
+}
+
+/// Tells whether a process may fault.
+///
+/// # Errors
+/// [`Refusal::BadLimit`], [`Refusal::BadScript`], [`Refusal::OutOfMemory`].
+pub fn faults(script: impl AsRef<[u8]>, limit: u32) -> Result<Reached, Refusal> {
+    reached(|text| raw::faults(script.as_ref(), limit, text))
+}
+
+/// Tells whether a process may print a value: `print` is `NAME=VALUE`, with the value as `print` writes it.
+///
+/// # Errors
+/// [`Refusal::BadLimit`], [`Refusal::BadScript`], [`Refusal::NoPrint`], [`Refusal::OutOfMemory`].
+pub fn never(script: impl AsRef<[u8]>, limit: u32, print: &str) -> Result<Reached, Refusal> {
+    reached(|text| raw::never(script.as_ref(), limit, print.as_bytes(), text))
+}
+
 /// Draws the journal's commits with a stamp in the range. Where `only` is not empty, only its processes have columns of
 /// their own.
 ///
@@ -260,6 +309,21 @@ const OPEN: u32 = 1;
 const STUCK: u32 = 3;
 const NOT_A_SCRIPT: u32 = 4;
 const STRANDED: u32 = 5;
+const FOUND: u32 = 6;
+
+/// What a call that asks about all runs tells.
+fn reached(call: impl Fn(&mut [u8]) -> Answer) -> Result<Reached, Refusal> {
+    let (answer, text) = whole(call);
+    if let Some(refusal) = refused(&answer, &text) {
+        return Err(refusal);
+    }
+    let answered = match answer.code {
+        DONE => Answered::Never,
+        FOUND => Answered::Found,
+        _ => Answered::Unknown,
+    };
+    Ok(Reached { answered, text })
+}
 
 /// The answer with its whole text: where a first buffer is too small, the call is made again.
 fn whole(call: impl Fn(&mut [u8]) -> Answer) -> (Answer, String) {
@@ -284,6 +348,7 @@ fn refused(answer: &Answer, text: &str) -> Option<Refusal> {
         19 => Refusal::BadRows,
         20 => Refusal::BadLimit,
         23 => Refusal::NoProcess(text.to_string()),
+        24 => Refusal::NoPrint(text.to_string()),
         _ => Refusal::OutOfMemory,
     })
 }

@@ -46,6 +46,31 @@ mod c {
             text: *mut u8,
             room: usize,
         ) -> Answer;
+        pub(super) fn pcml_left(
+            script: *const u8,
+            script_len: usize,
+            limit: u32,
+            names: *const u8,
+            names_len: usize,
+            text: *mut u8,
+            room: usize,
+        ) -> Answer;
+        pub(super) fn pcml_faults(
+            script: *const u8,
+            script_len: usize,
+            limit: u32,
+            text: *mut u8,
+            room: usize,
+        ) -> Answer;
+        pub(super) fn pcml_never(
+            script: *const u8,
+            script_len: usize,
+            limit: u32,
+            print: *const u8,
+            print_len: usize,
+            text: *mut u8,
+            room: usize,
+        ) -> Answer;
         pub(super) fn pcml_chart(
             script: *const u8,
             script_len: usize,
@@ -113,6 +138,41 @@ pub(crate) fn outcomes(
             n.len(),
             o.as_ptr(),
             o.len(),
+            text.as_mut_ptr(),
+            text.len(),
+        )
+    }
+}
+
+pub(crate) fn left(script: &[u8], limit: u32, names: &[u8], text: &mut [u8]) -> Answer {
+    let (s, n) = (script, names);
+    unsafe {
+        c::pcml_left(
+            s.as_ptr(),
+            s.len(),
+            limit,
+            n.as_ptr(),
+            n.len(),
+            text.as_mut_ptr(),
+            text.len(),
+        )
+    }
+}
+
+pub(crate) fn faults(script: &[u8], limit: u32, text: &mut [u8]) -> Answer {
+    let s = script;
+    unsafe { c::pcml_faults(s.as_ptr(), s.len(), limit, text.as_mut_ptr(), text.len()) }
+}
+
+pub(crate) fn never(script: &[u8], limit: u32, print: &[u8], text: &mut [u8]) -> Answer {
+    let (s, p) = (script, print);
+    unsafe {
+        c::pcml_never(
+            s.as_ptr(),
+            s.len(),
+            limit,
+            p.as_ptr(),
+            p.len(),
             text.as_mut_ptr(),
             text.len(),
         )

@@ -116,6 +116,46 @@ fn searches() {
 }
 
 #[test]
+fn questions() {
+    let told = |answered, text: &str| {
+        Ok(Reached {
+            answered,
+            text: text.into(),
+        })
+    };
+    let script = format!("{PAIR} process clock {{ forever {{ sync always (); }} }}");
+    assert_eq!(
+        never(&script, 9, "b=42"),
+        told(Answered::Found, "printed b 42 states 1\n")
+    );
+    assert_eq!(
+        never(&script, 9, "b=43"),
+        told(Answered::Never, "never b 43 states 2 all\n")
+    );
+    assert_eq!(
+        never(&script, 9, "b=#d"),
+        Err(Refusal::NoPrint("b=#d".into()))
+    );
+    assert_eq!(
+        faults(&script, 9),
+        told(Answered::Never, "fault none states 2 all\n")
+    );
+    assert_eq!(
+        faults(&script, 1),
+        told(Answered::Unknown, "fault unknown states 1 cut\n")
+    );
+    assert_eq!(faults(&script, 0), Err(Refusal::BadLimit));
+    assert_eq!(
+        left(&script, 9, "clock"),
+        told(Answered::Found, "left clock states 2\n")
+    );
+    assert_eq!(
+        left(&script, 9, "nobody"),
+        Err(Refusal::NoProcess("nobody".into()))
+    );
+}
+
+#[test]
 fn charts() {
     let draw = |journal: &str, form| chart(PAIR, journal, 256, "", 1..=u32::MAX, form);
     assert!(matches!(draw(JOURNAL, Form::Svg), Ok(Chart::Drawn(text)) if text.starts_with("<svg")));
