@@ -27,7 +27,7 @@ pub others_all : (plan : ℕ) (l : Lists) → others (begun plan l) l ≡ l
 others_all plan l = ap₂ (λ os ns. record { offers = os; nacks = ns }) (take-length l.offers) (take-length l.nacks)
 
 -- a turn, stage by stage
-turn_begins : (t : LoopBody) (s : State) → turn_on t s ≡ (run_stages t.line (stages 0 0 t.event) no_lists (at_line t.line s) >>= offered t)
+pub turn_begins : (t : LoopBody) (s : State) → turn_on t s ≡ (run_stages t.line (stages 0 0 t.event) no_lists (at_line t.line s) >>= offered t)
 turn_begins t s =
     let r = run_stages t.line (stages 0 0 t.event) no_lists (at_line t.line s) in
     ap (λ x. x >>= synced t.names >>= run_block t.rest) (resolves_whole t.line t.event (at_line t.line s))

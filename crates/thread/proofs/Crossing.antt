@@ -1,7 +1,7 @@
 -- A machine may cross threads, as its parts may.
 use denote.Builtin.{u8}
-use denote.Param.Send.{IsSend, IsSync, sendable, view_send}
-use denote.Param.SendFields.{variants_send, declared_send}
+use denote.Param.Send.{IsSend, IsSync, sendable, view_send, view_sync}
+use denote.Param.SendFields.{variants_send, declared_send, declared_sync}
 use Rattle.std.proofs.Crossing.{crosses}
 use Rattle.thread_code.specs.contracts.Code as Code
 use Rattle.protocol_values.specs.contracts.Base as Base
@@ -11,6 +11,9 @@ use Rattle.thread.specs.contracts.memory.Memory as Memory
 use Rattle.thread.specs.contracts.stack.Frame as Frame
 use Rattle.thread.specs.contracts.stack.Stack as Stack
 use Rattle.thread.specs.contracts.branch.Position as Position
+use Rattle.thread.specs.contracts.counted.Counted as Counted
+use Rattle.thread.specs.contracts.counted.Counted.TheInside as CountedInside
+use Rattle.thread.specs.contracts.needs.Needs as Needs
 use Rattle.thread.specs.contracts.branch.Branch as Branch
 use Rattle.thread.specs.contracts.branch.Branch.TheInside as BranchInside
 use Rattle.thread.specs.contracts.machine.Machine as Machine
@@ -51,9 +54,31 @@ place_send = search (sendable, crosses) depth 30
 memory_send : IsSend Memory.the_row
 memory_send = search (sendable, crosses) depth 30
 
+needs_send : IsSend Needs.the_row
+needs_send = search (sendable, crosses) depth 30
+
+needs_sync : IsSync Needs.the_row
+needs_sync = search (sendable, crosses) depth 30
+
+counted_inside_send : IsSend CountedInside.the_row
+counted_inside_send =
+    let a = code_send in let b = needs_send in
+    declared_send CountedInside.the_type (a, (search (sendable, crosses) depth 20, tt))
+
+counted_send : IsSend Counted.the_row
+counted_send = view_send _ _ _ _ _ counted_inside_send
+
+counted_inside_sync : IsSync CountedInside.the_row
+counted_inside_sync =
+    let a = code_sync in let b = needs_sync in
+    declared_sync CountedInside.the_type (a, (search (sendable, crosses) depth 20, tt))
+
+counted_sync : IsSync Counted.the_row
+counted_sync = view_sync _ _ _ _ _ counted_inside_sync
+
 branch_inside_send : IsSend BranchInside.the_row
 branch_inside_send =
-    let a = block_row_send in let b = block_row_sync in let c = code_send in let d = code_sync in let e = message_send in
+    let a = block_row_send in let b = block_row_sync in let c = counted_send in let d = counted_sync in let e = message_send in
     declared_send BranchInside.the_type (search (sendable, crosses) depth 20, (search (sendable, crosses) depth 20, (search sendable depth 20, (search sendable depth 20, (memory_send, (stack_send, (search (sendable, crosses) depth 20, (search (sendable, crosses) depth 20, (place_send, tt)))))))))
 
 branch_send : IsSend Branch.the_row

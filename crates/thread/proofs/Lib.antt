@@ -21,6 +21,11 @@ pub mod Crossing
 pub mod Spawning
 pub mod Walks
 pub mod Printing
+pub mod Counting
+pub mod Reading
+pub mod Leaving
+pub mod Needing
+pub mod Outlook
 pub mod Alike
 pub mod Taken
 pub mod Same

@@ -34,7 +34,7 @@ pub record StageAt (c : Code) (ss : List Stage) (i : ℕ) (x : SeenStage) : Type
   pub taken : take (i + 1) ss ≡ take i ss ++ stage ∷ []
   pub within : i < length ss
 
-stage_at : (c : Code) (xs : List SeenStage) (ss : List Stage) (i : ℕ) (x : SeenStage) → AreStages c xs ss → slice_get xs i ≡ Some x → StageAt c ss i x
+pub stage_at : (c : Code) (xs : List SeenStage) (ss : List Stage) (i : ℕ) (x : SeenStage) → AreStages c xs ss → slice_get xs i ≡ Some x → StageAt c ss i x
 stage_at c [] ss i x are there = absurd (none-some x there)
 stage_at c (y ∷ xs) [] i x are there = absurd are
 stage_at c (y ∷ xs) (stage ∷ ss) zero x are there = record {
@@ -65,17 +65,17 @@ no_stage c (y ∷ xs) (stage ∷ ss) (suc i) are there =
     let more = no_stage c xs ss i are.1 there in
     (omega (arith, more.0), more.1)
 
-offer_stage : (c : Code) (event : _) (mask : ℕ) (stage : Stage) → IsStage c (seen.Offer event mask) stage → stage ≡ Offered (event_of event.value) mask
+pub offer_stage : (c : Code) (event : _) (mask : ℕ) (stage : Stage) → IsStage c (seen.Offer event mask) stage → stage ≡ Offered (event_of event.value) mask
 offer_stage c event mask (Offered base scopes) h = ap₂ Offered (sym h.0) (sym h.1)
 offer_stage c event mask (Performed body) h = absurd h
 offer_stage c event mask (Made name) h = absurd h
 
-body_stage : (c : Code) (at : ℕ) (stage : Stage) → IsStage c (seen.Body at) stage → (body : Block) × (stage ≡ Performed body) × IsAt c at body
+pub body_stage : (c : Code) (at : ℕ) (stage : Stage) → IsStage c (seen.Body at) stage → (body : Block) × (stage ≡ Performed body) × IsAt c at body
 body_stage c at (Offered base scopes) h = absurd h
 body_stage c at (Performed body) h = (body, refl, h)
 body_stage c at (Made name) h = absurd h
 
-nack_stage : (c : Code) (variable : ℕ) (stage : Stage) → IsStage c (seen.Nack variable) stage → stage ≡ Made variable
+pub nack_stage : (c : Code) (variable : ℕ) (stage : Stage) → IsStage c (seen.Nack variable) stage → stage ≡ Made variable
 nack_stage c variable (Offered base scopes) h = absurd h
 nack_stage c variable (Performed body) h = absurd h
 nack_stage c variable (Made name) h = ap Made (sym h)

@@ -147,6 +147,15 @@ not_behind : (all : List Wrapping) (count n k : ℕ) (p : Passage) (m : Message)
 not_behind all count n k p m s (Some numbers) h past = absurd (subst IsThrough (sym h ∙ past) tt)
 not_behind all count n k p m s None h past = omega (arith, h.1)
 
+carried : (all every : List Wrapping) (count n : ℕ) (p : Passage) (m : Message) (s : State) (x : Option (List ℕ)) (numbers : List ℕ) → all ≡ every → x ≡ Some numbers → Carries all count p n m s x → p ≡ Through (wrapped every numbers m s)
+carried all every count n p m s x numbers same is h =
+    subst (λ a. p ≡ Through (wrapped a numbers m s)) same (subst (Carries all count p n m s) is h)
+
+-- where these wraps are round the base event, the message goes out through them
+pub pass_wraps : (e : Event) (l : Lists) (n : ℕ) (m : Message) (s : State) (numbers : List ℕ) → wraps_at (tree_as e l) n ≡ Some numbers → pass e n m s ≡ Through (wrapped (wraps_in e) numbers m s)
+pass_wraps e l n m s numbers is =
+    carried (([] ++ wraps_in e) ++ []) (wraps_in e) (base_count e) n (pass e n m s) m s (wraps_at (tree_as e l) n) numbers (all_of e) is (carries e [] [] _ l.nacks n m s)
+
 -- a message from one of the event's base events comes through
 pub passes_through : (e : Event) (n k : ℕ) (m : Message) (s : State) → pass e n m s ≡ Past k → base_count e ≤ n
 passes_through e n k m s past = not_behind (([] ++ wraps_in e) ++ []) (base_count e) n k (pass e n m s) m s (wraps_at (tree_with 0 e [] []) n) (carries e [] [] [] [] n m s) past

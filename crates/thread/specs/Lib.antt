@@ -13,4 +13,6 @@ pub mod Machines
 pub mod Places
 pub mod Ranges
 pub mod Printing
+pub mod Reading
+pub mod Counting
 pub mod Alike

@@ -12,10 +12,12 @@ ghost use Rattle.thread.specs.contracts.machine.Machine as machine;
 
 mod branch;
 mod commit;
+mod counted;
 mod hashing;
 pub mod log;
 mod machine;
 mod memory;
+mod needs;
 mod resolving;
 mod results;
 mod stack;
