@@ -15,6 +15,14 @@ NARROW = (390, 844)
 VIEWS = ["run", "outcomes", "why", "chart", "step", "language", "about"]
 # The page answers its first example within so many milliseconds of its loading.
 SOON = 1000
+# Nothing that an earlier page kept is there.
+FRESH = "try { localStorage.clear(); sessionStorage.clear(); } catch {}\n"
+# The browser lets a page have no store.
+NO_STORES = """
+for (const name of ["localStorage", "sessionStorage"]) {
+  Object.defineProperty(window, name, { get() { throw new DOMException("refused", "SecurityError"); } });
+}
+"""
 # Notes when the first answer is there.
 NOTE_ANSWER = """
 const noting = setInterval(() => {
@@ -60,12 +68,20 @@ def wait_answer(page):
     wait_until(page, rest, "an answer")
 
 
-def opened(driven, address, size=WIDE, before=NOTE_ANSWER):
+def opened(driven, address, size=WIDE, before=FRESH + NOTE_ANSWER):
     page = driven.page(*size, before)
     page.open(address)
     wait_until(page, "Boolean(window.playground)", "the page")
     wait_answer(page)
     return page
+
+
+def load_again(page):
+    """What the browser's own button for it does."""
+    page.evaluate("window.is_old = true")
+    page.call("Page.reload")
+    wait_until(page, "!window.is_old && Boolean(window.playground)", "the page once more")
+    wait_answer(page)
 
 
 def text_of(page, selector):
@@ -142,6 +158,8 @@ def options_count(driven, address):
     page = opened(driven, address)
     choose_example(page, "dining_philosophers")
     press_view(page, "outcomes")
+    choose(page, "#extent", "within")
+    wait_answer(page)
     meets(text_of(page, "#told"), "24 outcomes, and that is all within 8 syncs a process.")
     page.click("#waiting")
     wait_answer(page)
@@ -153,13 +171,84 @@ def options_count(driven, address):
     meets(text_of(page, "#answer"), "no process is named 'nobody'")
     choose_example(page, "ordered_philosophers")
     press_view(page, "outcomes")
+    assert page.evaluate("document.querySelector('#waiting').disabled"), "the program takes one of the two"
     needs_end(page, "plato,kant,hume", "--need plato,kant,hume", "Each of these ends in each run. Every run ends within 12 commits.", "met")
     needs_end(page, "all", "--need all", "1 outcome in which one of these has not ended, and that is all.", "fault")
     fill(page, "#script", "process a { forever { sync always (); } }\n")
     press_view(page, "outcomes")
     needs_end(page, "a", "--need a", "None of these is ever stranded. Some runs go on for ever.", "met")
+    choose(page, "#extent", "within")
     fill(page, "#rows", "9")
     needs_end(page, "a", "--need a --rows 9", "1 outcome in which one of these has not ended, and that is all within 9 syncs", "open")
+
+
+def bound_is_told(driven, address):
+    """Outcomes is asked without a bound and with one, which each time is told; other views have one always."""
+    page = opened(driven, address)
+    choose_example(page, "dining_philosophers")
+    meets(text_of(page, ".asked"), "pcml run script.pcml --workers 1 --rows 8")
+    bounds_are(page, True, "The run stops a process there.")
+    press_view(page, "outcomes")
+    assert text_of(page, ".asked") == "pcml outcomes script.pcml"
+    bounds_are(page, False, "No bound: a process may make any number of syncs.")
+    meets(text_of(page, "#told"), "1 outcome, and that is all. Some runs go on for ever.")
+    meets(text_of(page, "#answer"), "233 states seen in ", "in runs of any length.")
+    # The journal of an outcome may have more syncs than the field says.
+    page.click("#answer tbody button")
+    wait_answer(page)
+    meets(text_of(page, "#told"), "commits of outcome 1.")
+    choose_example(page, "fan_in")
+    press_view(page, "outcomes")
+    choose(page, "#extent", "within")
+    wait_answer(page)
+    # As many as always are a bound too, once that is asked for.
+    assert text_of(page, ".asked") == "pcml outcomes script.pcml --rows 256"
+    bounds_are(page, True, "Longer runs are not searched.")
+    meets(text_of(page, "#answer"), "in runs within 256 syncs a process.")
+    fill(page, "#rows", "2")
+    page.press("Enter")
+    wait_answer(page)
+    meets(text_of(page, "#told"), "2 outcomes, and that is all within 2 syncs a process.")
+    choose(page, "#never", "--faults")
+    wait_answer(page)
+    bounds_are(page, False, "No bound: a process may make any number of syncs.")
+    assert page.evaluate("document.querySelector('#extent').offsetParent === null")
+    press_view(page, "step")
+    bounds_are(page, True, "Bounds your run.")
+
+
+def bounds_are(page, is_seen, told):
+    assert sees_rows(page) == is_seen
+    assert text_of(page, "#bounds") == told
+
+
+def only_and_first_are_asked(driven, address):
+    page = opened(driven, address)
+    choose_example(page, "fan_in")
+    press_view(page, "outcomes")
+    fill(page, "#only", "odd , merge")
+    page.press("Enter")
+    wait_answer(page)
+    meets(text_of(page, ".asked"), "pcml outcomes script.pcml --only odd,merge")
+    meets(text_of(page, "#told"), "1 outcome, and that is all.")
+    meets(text_of(page, "#answer"), "Outcomes that differ in other processes alone are one.")
+    heads = page.evaluate("[...document.querySelectorAll('#answer thead th')].map((it) => it.textContent)")
+    assert heads == ["Outcome", "odd", "merge"], heads
+    fill(page, "#only", "reader")
+    page.click("#first")
+    wait_answer(page)
+    meets(text_of(page, ".asked"), "--only reader --first")
+    is_told(page, "1 outcome, the first that was found. The search stopped there.", "")
+    page.click("#answer tbody button")
+    wait_answer(page)
+    meets(text_of(page, "#told"), "The chart of the 8 commits of outcome 1.")
+    press_view(page, "outcomes")
+    needs_end(page, "reader", "--need reader --only reader --first", "the first that was found", "fault")
+    needs_end(page, "odd", "--need odd --only reader --first", "Each of these ends in each run.", "met")
+    fill(page, "#only", "nobody")
+    page.press("Enter")
+    wait_answer(page)
+    meets(text_of(page, "#answer"), "no process is named 'nobody'")
 
 
 def needs_end(page, names, words, told, kind):
@@ -368,8 +457,54 @@ def links_hold_scripts(driven, address):
     assert other.evaluate("document.querySelector('#rows').value") == "9"
     meets(text_of(other, "#answer"), "1 a.0.0 -> b.0.0 c (7)")
     meets(text_of(other, ".asked"), "--rows 9")
+    assert not other.evaluate("playground.is_within")
+    # Those of earlier pages do not say which runs are searched: within the syncs where these are not as always.
+    early = opened(driven, link.replace("&runs=any", ""))
+    assert early.evaluate("playground.is_within")
     damaged = opened(driven, address + "#script=nonsense!")
     meets(text_of(damaged, "#notes"), "The link holds no script that can be read.")
+
+
+def reload_keeps_script(driven, address):
+    """Its text, its syncs, and which runs Outcomes searches: of this tab before another's, and of a link before both."""
+    opened(driven, address).close()
+    page = opened(driven, address, before=NOTE_ANSWER)
+    fill(page, "#script", BESIDE)
+    fill(page, "#rows", "9")
+    press_view(page, "outcomes")
+    choose(page, "#extent", "within")
+    other = opened(driven, address, before=NOTE_ANSWER)
+    assert other.evaluate("playground.editor.text") == BESIDE, "a new tab begins with the last script"
+    choose_example(other, "swap")
+    load_again(other)
+    assert other.evaluate("document.querySelector('#example').value") == "swap"
+    load_again(page)
+    assert page.evaluate("playground.held") == {"text": BESIDE, "rows": 9, "is_within": True}
+    page.click("#copy-link")
+    wait_until(page, "location.hash.includes('script=')", "the link")
+    link = page.evaluate("location.href")
+    load_again(other)
+    linked = opened(driven, link, before=NOTE_ANSWER)
+    assert linked.evaluate("playground.held") == {"text": BESIDE, "rows": 9, "is_within": True}
+    assert linked.evaluate("location.hash") != "", "a link that is there stays"
+    # What is written then is no script of the link any more.
+    fill(linked, "#script", "process other { }\n")
+    load_again(linked)
+    assert linked.evaluate("playground.editor.text") == "process other { }\n"
+    damaged = opened(driven, address, before=NOTE_ANSWER)
+    damaged.evaluate("sessionStorage.puttolive = localStorage.puttolive = '{\"text\": 3'")
+    load_again(damaged)
+    meets(text_of(damaged, "#told"), "6 commits. Every process ended.")
+
+
+def stores_may_be_refused(driven, address):
+    page = opened(driven, address, before=NO_STORES + NOTE_ANSWER)
+    meets(text_of(page, "#told"), "6 commits. Every process ended.")
+    fill(page, "#script", BESIDE)
+    press_view(page, "outcomes")
+    meets(text_of(page, "#told"), "May be stranded: dead, late.")
+    load_again(page)
+    meets(text_of(page, "#told"), "6 commits. Every process ended.")
 
 
 def keyboard_reaches_all(driven, address):
@@ -412,7 +547,7 @@ def fits_a_narrow_screen(driven, address):
 
 
 def old_browsers_are_told(driven, address):
-    page = driven.page(*WIDE, "WebAssembly.validate = () => false;")
+    page = driven.page(*WIDE, FRESH + "WebAssembly.validate = () => false;")
     page.open(address)
     wait_until(page, "!document.querySelector('#lacks').hidden", "what the browser lacks")
     meets(text_of(page, "#lacks"), "memory64", "Chrome", "Firefox")
@@ -457,6 +592,8 @@ TRIALS = [
     any_host_serves_it,
     views_show,
     options_count,
+    bound_is_told,
+    only_and_first_are_asked,
     stranded_is_told,
     never_printed_is_told,
     never_else_is_told,
@@ -464,6 +601,8 @@ TRIALS = [
     faults_are_told,
     long_search_stops,
     links_hold_scripts,
+    reload_keeps_script,
+    stores_may_be_refused,
     keyboard_reaches_all,
     all_is_named,
     fits_a_narrow_screen,

@@ -10,16 +10,23 @@ async function packed(text) {
   return btoa(letters).replaceAll("+", "-").replaceAll("/", "_").replaceAll("=", "");
 }
 
-async function fragment_of(text, rows) {
-  return `script=${await packed(text)}&rows=${rows}`;
+// As many syncs as a process may make: as many as always where the number is none that the page lets one choose.
+function rows_of(number) {
+  return number >= 1 && number <= MOST_ROWS ? Math.floor(number) : ROWS;
 }
 
-// The script and the rows that a fragment holds; null where it holds none. It fails where the script is damaged.
+async function fragment_of({ text, rows, is_within }) {
+  return `script=${await packed(text)}&rows=${rows}&runs=${is_within ? "within" : "any"}`;
+}
+
+// The script that a fragment holds, with how long its runs may be; null where it holds none. It fails where the script
+// is damaged. A link that does not say which runs Outcomes searches has a bound where that is not the one of always.
 async function held_by(fragment) {
   const held = new URLSearchParams(fragment.replace(/^#/, ""));
   if (!held.has("script")) return null;
   const text = held.get("script").replaceAll("-", "+").replaceAll("_", "/");
   const bytes = await unpacked(text, "deflate-raw", MOST_IN_LINK);
-  const rows = Number(held.get("rows") ?? 256);
-  return { text: new TextDecoder().decode(bytes), rows: rows >= 1 && rows <= 1024 ? Math.floor(rows) : 256 };
+  const rows = rows_of(Number(held.get("rows") ?? ROWS));
+  const is_within = held.has("runs") ? held.get("runs") === "within" : rows !== ROWS;
+  return { text: new TextDecoder().decode(bytes), rows, is_within };
 }

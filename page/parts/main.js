@@ -13,7 +13,10 @@ function let_try(load) {
   for (const block of document.querySelectorAll("#language pre")) {
     const text = block.textContent;
     if (!/^(channel|process) /.test(text)) continue;
-    const button = made_button("Try it", () => load(text, ROWS), { class: "plain" });
+    const button = made_button("Try it", () => {
+      leave_link();
+      load({ text, rows: ROWS });
+    }, { class: "plain" });
     block.after(made("p", { class: "try" }, button));
   }
 }
@@ -21,7 +24,7 @@ function let_try(load) {
 async function load_fragment(load) {
   try {
     const held = await held_by(location.hash);
-    if (held) load(held.text, held.rows);
+    if (held) load(held);
     return Boolean(held);
   } catch {
     found("notes").textContent = "The link holds no script that can be read.";
@@ -30,21 +33,24 @@ async function load_fragment(load) {
   }
 }
 
+// Lets one choose an example. What it answers loads the script that was kept, or else the first example.
 function connect_examples(load) {
   const examples = JSON.parse(found("examples").textContent);
-  const load_example = (name) => {
-    const example = examples.find((it) => it.name === name);
-    load(example.text, example.rows);
-    found("example").value = name;
+  const load_and_name = (held) => {
+    load(held);
+    found("example").value = examples.find((it) => it.text === held.text)?.name ?? "";
   };
-  found("example").addEventListener("change", (event) => load_example(event.target.value));
-  return () => load_example(examples[0].name);
+  found("example").addEventListener("change", (event) => {
+    leave_link();
+    load_and_name(examples.find((it) => it.name === event.target.value));
+  });
+  return () => load_and_name(kept_script() ?? examples[0]);
 }
 
-function connect_link(text, rows) {
+function connect_link(held) {
   const button = found("copy-link");
   button.addEventListener("click", async () => {
-    location.hash = await fragment_of(text(), rows());
+    location.hash = await fragment_of(held());
     await copy(location.href);
     button.textContent = "Link copied";
     setTimeout(() => { button.textContent = "Copy link"; }, 1500);
@@ -60,6 +66,7 @@ function connect_buttons(page) {
   found("choices").addEventListener("submit", (event) => event.preventDefault());
   found("choices").addEventListener("change", (event) => {
     if (event.target.id === "rows") page.forget();
+    keep_script(page.held);
     page.show(page.view);
     if (event.target.id === "never") found(FIELDS[event.target.value] ?? "")?.focus();
   });
@@ -72,9 +79,16 @@ function connect_buttons(page) {
 // The page without the program: the texts can be read and written all the same.
 async function begin_without() {
   told_lack();
-  const editor = new Editor(() => {});
-  const load = (text) => { editor.text = text; };
-  connect_link(() => editor.text, () => ROWS);
+  const held = () => ({ text: editor.text, rows: ROWS, is_within: false });
+  const editor = new Editor(() => {
+    leave_link();
+    keep_script(held());
+  });
+  const load = ({ text }) => {
+    editor.text = text;
+    keep_script(held());
+  };
+  connect_link(held);
   let_try(load);
   for (const button of document.querySelectorAll(".acts .plain")) {
     button.addEventListener("click", () => show_page(button.dataset.view));
@@ -87,17 +101,17 @@ async function begin_without() {
 async function begin() {
   if (!has_wide_memory()) return begin_without();
   const page = new Playground(compiled_module());
-  const load = (text, rows) => {
-    page.load(text, rows);
+  const load = (held) => {
+    page.load(held);
     page.show("run");
   };
   window.playground = page;
   connect_buttons(page);
-  connect_link(() => page.editor.text, () => page.rows);
+  connect_link(() => page.held);
   let_try(load);
   const load_first = connect_examples(load);
   // A link that was copied here names the script that is there already.
-  const load_other = (text, rows) => text !== page.editor.text && load(text, rows);
+  const load_other = (held) => held.text !== page.editor.text && load(held);
   window.addEventListener("hashchange", () => load_fragment(load_other));
   if (!(await load_fragment(load))) load_first();
 }

@@ -9,6 +9,16 @@ const PAGES = ["language", "about"];
 // How it is told whether all is as it has to be, by the status: it is, it is not known, some run shows that it is not.
 const KINDS = { 0: "met", 1: "open", 3: "fault" };
 const AFTER_RUN = "A run shows one outcome. Outcomes tells all, and Step lets you choose.";
+// What is told beside the number of syncs: in which view it bounds what, and where nothing does.
+const BOUNDS = {
+  any: "No bound: a process may make any number of syncs.",
+  within: "Longer runs are not searched.",
+  run: "The run stops a process there.",
+  why: "Bounds the run that is shown.",
+  chart: "Bounds the run that is shown.",
+  step: "Bounds your run.",
+};
+const ONLY_THESE = "Outcomes that differ in other processes alone are one.";
 
 // Marks the button of a view, and shows the page of that name where there is one.
 function show_page(view) {
@@ -31,16 +41,28 @@ class Playground {
   }
 
   get rows() {
-    const rows = Number(found("rows").value);
-    return rows >= 1 && rows <= MOST_ROWS ? Math.floor(rows) : ROWS;
+    return rows_of(Number(found("rows").value));
+  }
+
+  // What a link and a reload keep.
+  get held() {
+    return { text: this.editor.text, rows: this.rows, is_within: this.is_within };
+  }
+
+  // Whether Outcomes searches the runs of so many syncs a process alone. Runs, and what is shown of one, always have a
+  // bound.
+  get is_within() {
+    return found("extent").value === "within";
   }
 
   // Puts a script into the editor. What was made of an earlier one is no journal of it.
-  load(text, rows) {
+  load({ text, rows, is_within = false }) {
     found("rows").value = rows;
+    found("extent").value = is_within ? "within" : "any";
     found("example").value = "";
     this.editor.text = text;
     this.forget();
+    keep_script(this.held);
     this.checking.now();
   }
 
@@ -51,6 +73,8 @@ class Playground {
 
   changed() {
     this.forget();
+    leave_link();
+    keep_script(this.held);
     this.checking.soon();
     found("example").value = "";
     this.set_old(this.view !== "" && !PAGES.includes(this.view));
@@ -67,10 +91,16 @@ class Playground {
     found("answer").inert = is_dim;
   }
 
-  // Calls the program on the script as it stood when the view was asked for, with the syncs that a process may make
-  // where they are not as many as always, and the call takes them.
+  // The words with the syncs that a process may make. A search is of runs of any length where they are left out, and
+  // any other call has as many as always.
+  bounded(words) {
+    const is_bounded = words[0] === "outcomes" ? this.is_within && !asks_never(words) : this.rows !== ROWS;
+    return is_bounded ? [...words, "--rows", String(this.rows)] : words;
+  }
+
+  // Calls the program on the script as it stood when the view was asked for.
   async play(words, files = {}) {
-    const all = this.rows === ROWS || asks_never(words) ? words : [...words, "--rows", String(this.rows)];
+    const all = this.bounded(words);
     const answer = await this.caller.call(all, { [SCRIPT]: this.text, ...files });
     if (answer.broke || (answer.status !== 0 && answer.out === "")) throw new Refusal(answer, all);
     return { ...answer, words: all };
@@ -106,9 +136,15 @@ class Playground {
 
   // Of the choices those are seen that count: what must never happen is asked alone.
   open_choices() {
-    const { question } = this;
-    found("for-outcomes").hidden = this.view !== "outcomes";
-    found("for-rows").hidden = found("for-ends").hidden = question !== "";
+    const { question, view } = this;
+    const is_search = view === "outcomes";
+    const bound = is_search ? found("extent").value : view;
+    found("for-outcomes").hidden = !is_search;
+    found("for-extent").hidden = !is_search || question !== "";
+    found("for-rows").hidden = bound === "any" || question !== "";
+    found("bounds").textContent = BOUNDS[question ? "any" : bound] ?? "";
+    found("for-ends").hidden = question !== "";
+    found("waiting").disabled = this.need !== "";
     for (const [asking, field] of Object.entries(FIELDS)) {
       if (field) found(field).hidden = asking !== question;
     }
@@ -171,8 +207,16 @@ class Playground {
   // Who has to end goes before who is left waiting: the program takes one of the two.
   outcome_words() {
     const words = ["outcomes", SCRIPT];
-    if (this.need) return [...words, "--need", this.need];
-    return found("waiting").checked ? [...words, "--waiting"] : words;
+    const only = without_gaps(found("only").value);
+    if (this.need) words.push("--need", this.need);
+    else if (found("waiting").checked) words.push("--waiting");
+    if (only) words.push("--only", only);
+    if (found("first").checked) words.push("--first");
+    return words;
+  }
+
+  get told_extent() {
+    return this.is_within ? `within ${counted(this.rows, "sync")} a process` : "of any length";
   }
 
   async outcomes() {
@@ -180,9 +224,10 @@ class Playground {
     const words = this.outcome_words();
     const answer = await this.play(words);
     const { outcomes, stranded, seen, extent } = read_outcomes(answer.out);
-    const seen_in = `${seen} seen in ${Math.round(answer.milliseconds)} ms.`;
+    const seen_in = `${seen} seen in ${Math.round(answer.milliseconds)} ms, in runs ${this.told_extent}.`;
     const is_asked = stranded.length || (words.includes("--need") && extent.endsWith("for ever"));
-    const hints = [...(is_asked ? [OF_STRANDED] : []), seen_in, ...lines_of(answer.err)].map(drawn_hint);
+    const meant = [...(is_asked ? [OF_STRANDED] : []), ...(words.includes("--only") ? [ONLY_THESE] : [])];
+    const hints = [...meant, seen_in, ...lines_of(answer.err)].map(drawn_hint);
     const follow = (number) => this.follow([...words, "--of", String(number)]);
     const drawn = outcomes.length ? drawn_outcomes(outcomes, follow) : [];
     const follow_to = (name) => this.follow(["outcomes", SCRIPT, "--need", name]);
@@ -222,7 +267,7 @@ class Playground {
     try {
       const answer = await this.play([...words, "--journal", JOURNAL]);
       const commits = lines_of(answer.files[JOURNAL] ?? "");
-      if (asks_never(words)) this.make_room(commits);
+      if (asks_never(words) || !this.is_within) this.make_room(commits);
       this.keep(commits, followed_by(words, answer.out));
       this.stepper.begin(commits);
     } catch (error) {
@@ -232,11 +277,11 @@ class Playground {
     if (turn === this.turn) await this.show("chart");
   }
 
-  // A run to what must never happen is of any length. Where a process makes more syncs in it than it may, it may then
-  // make these, and the one at which it waits.
+  // A run that a search without a bound finds is of any length. Where a process makes more syncs in it than it may, it
+  // may then make these, and the one at which it waits.
   make_room(commits) {
-    const syncs = commits.flatMap((line) => [...line.matchAll(/\.([0-9]+)\.[0-9]/g)]).map((it) => Number(it[1]));
-    found("rows").value = Math.min(MOST_ROWS, Math.max(this.rows, ...syncs.map((sync) => sync + 2)));
+    found("rows").value = Math.min(MOST_ROWS, Math.max(this.rows, syncs_of(commits) + 1));
+    keep_script(this.held);
   }
 
   keep(commits, of) {
@@ -325,6 +370,12 @@ function followed_by(words, out) {
   return outcomes.length ? `outcome ${outcomes[0].number}` : `a run that leaves ${stranded[0]?.name} stranded`;
 }
 
+// How many syncs the process makes in these commits that makes the most.
+function syncs_of(commits) {
+  const numbers = commits.flatMap((line) => [...line.matchAll(/\.([0-9]+)\.[0-9]/g)]).map((it) => Number(it[1]));
+  return numbers.reduce((most, number) => Math.max(most, number + 1), 0);
+}
+
 function of_journal({ commits, of }) {
   return commits.length ? `the ${counted(commits.length, "commit")} of ${of}` : `${of}, which made no commit`;
 }
@@ -356,6 +407,7 @@ function told_of_stranded(stranded) {
 }
 
 function told_of_outcomes(count, stranded, extent, words, status) {
+  if (extent === "first") return `${kind_of_outcomes(count, words)}, the first that was found. The search stopped there.`;
   if (words.includes("--need") && count === 0) return told_of_needed(stranded, extent, status) + told_ending(extent);
   const kind = kind_of_outcomes(count, words);
   const [, within] = /^all within ([0-9]+) syncs/.exec(extent) ?? [];

@@ -1,0 +1,38 @@
+// The script in the browser's own stores, so that a reload keeps it. Where a store is refused or full, it does not.
+
+const KEPT = "puttolive";
+// That of this tab goes first, so that two tabs keep two scripts. A new tab begins with the last script of all.
+const STORES = ["sessionStorage", "localStorage"];
+
+// What a store comes to. The browser may throw as soon as it is named.
+function of_store(name, ask) {
+  try {
+    return ask(window[name]);
+  } catch {
+    return null;
+  }
+}
+
+function keep_script(held) {
+  const text = JSON.stringify(held);
+  for (const name of STORES) of_store(name, (store) => store.setItem(KEPT, text));
+}
+
+// The script that was kept, with how long its runs may be; null where none was, or where it cannot be read.
+function read_script(text) {
+  const { text: script, rows, is_within } = JSON.parse(text);
+  return typeof script === "string" ? { text: script, rows: rows_of(rows), is_within: is_within === true } : null;
+}
+
+function kept_script() {
+  for (const name of STORES) {
+    const held = of_store(name, (store) => read_script(store.getItem(KEPT)));
+    if (held) return held;
+  }
+  return null;
+}
+
+// An address that holds a script goes first on a reload. So it gives that script up once another stands in the page.
+function leave_link() {
+  if (location.hash) history.replaceState(null, "", location.href.split("#")[0]);
+}
