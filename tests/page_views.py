@@ -212,13 +212,13 @@ def bound_is_told(driven, address):
     choose(page, "#never", "--faults")
     wait_answer(page)
     bounds_are(page, False, "No bound: a process may make any number of syncs.")
-    assert page.evaluate("document.querySelector('#extent').offsetParent === null")
+    assert not is_seen(page, "#extent")
     press_view(page, "step")
     bounds_are(page, True, "Bounds your run.")
 
 
-def bounds_are(page, is_seen, told):
-    assert sees_rows(page) == is_seen
+def bounds_are(page, is_bounded, told):
+    assert is_seen(page, "#rows") == is_bounded
     assert text_of(page, "#bounds") == told
 
 
@@ -298,8 +298,8 @@ def stranded_is_told(driven, address):
     assert colour not in (colour_of(page, "#answer .waiting"), colour_of(page, "#told")), f"{colour} is that of others"
 
 
-def sees_rows(page):
-    return page.evaluate("document.querySelector('#rows').offsetParent !== null")
+def is_seen(page, selector):
+    return page.evaluate(f"document.querySelector({json.dumps(selector)}).offsetParent !== null")
 
 
 def ask_never(page, question, field="", text=""):
@@ -325,7 +325,7 @@ def never_printed_is_told(driven, address):
     ask_never(page, "--never", "printed", "observer=99")
     is_told(page, "observer never prints 99.", "met")
     assert text_of(page, ".asked") == "pcml outcomes script.pcml --never observer=99", "it is of runs of any length"
-    assert not sees_rows(page), "the syncs do not count, and are seen"
+    assert not is_seen(page, "#rows"), "the syncs do not count, and are seen"
     meets(text_of(page, "#answer"), "runs of any length", "42 states seen")
     fill(page, "#script", page.evaluate("playground.editor.text").replace("set_turn (turn_b)", "set_turn (turn_a)"))
     press_view(page, "outcomes")
@@ -379,13 +379,15 @@ def never_else_is_told(driven, address):
     is_told(page, "No process ever faults.", "met")
     choose(page, "#never", "")
     wait_until(page, "document.querySelector('#told').textContent.includes('and that is all')", "all outcomes")
-    assert sees_rows(page), "the syncs count again, and are not seen"
+    assert is_seen(page, "#extent"), "it is asked again which runs are searched, and is not seen"
 
 
 def steps_go_and_come(driven, address):
     page = opened(driven, address)
     choose_example(page, "client_server")
     press_view(page, "step")
+    meets(text_of(page, "#told"), "4 commits taken. No commit may come next.")
+    press_move(page, "Start over")
     meets(text_of(page, "#told"), "0 commits taken. 1 may come next.")
     meets(text_of(page, "#answer .commits"), "1 client.0.0 -> server.0.0 request (#reply, !client.0)")
     page.evaluate("document.querySelector('.commits button').focus()")
@@ -400,6 +402,58 @@ def steps_go_and_come(driven, address):
     assert page.evaluate("document.activeElement.textContent") == "Take back", "the keyboard lost its place"
     press_view(page, "why")
     meets(text_of(page, "#told"), "the 3 commits of your own run")
+
+
+def press_move(page, label):
+    page.evaluate(f"[...document.querySelectorAll('.moves button')].find((it) => it.textContent === '{label}').click()")
+    wait_answer(page)
+
+
+def steps_and_runs_are_one(driven, address):
+    """Step begins with the run's commits, Why and Chart show the steps, and a run takes their place once it is pressed."""
+    page = opened(driven, address)
+    choose_example(page, "fan_in")
+    press_view(page, "run")
+    journal = "document.querySelector('#answer [aria-label=Journal]').textContent"
+    ran = page.evaluate(journal)
+    press_view(page, "step")
+    meets(text_of(page, "#told"), "8 commits taken. No commit may come next.")
+    meets(text_of(page, "#answer"), "These are the commits of the run.")
+    assert page.evaluate(journal) == ran
+    for count in (7, 6):
+        press_move(page, "Take back")
+        meets(text_of(page, "#told"), f"{count} commits taken.")
+    assert "commits of the run" not in text_of(page, "#answer")
+    stepped = page.evaluate(journal)
+    assert ran.startswith(stepped) and stepped.count("\n") == 6
+    press_view(page, "why")
+    meets(text_of(page, "#told"), "the 6 commits of your own run")
+    press_view(page, "chart")
+    meets(text_of(page, "#told"), "the 6 commits of your own run")
+    assert page.evaluate(journal) == stepped
+    # Neither other views nor another number of syncs make a run.
+    press_view(page, "outcomes")
+    press_view(page, "about")
+    press_view(page, "step")
+    fill(page, "#rows", "100")
+    page.press("Enter")
+    wait_answer(page)
+    meets(text_of(page, ".asked"), "--rows 100")
+    meets(text_of(page, "#told"), "6 commits taken.")
+    assert page.evaluate(journal) == stepped
+    # Whoever has made more syncs than that has made no such run.
+    fill(page, "#rows", "1")
+    page.press("Enter")
+    wait_answer(page)
+    meets(text_of(page, "#told"), "0 commits taken.")
+    fill(page, "#rows", "256")
+    press_view(page, "run")
+    press_view(page, "chart")
+    meets(text_of(page, "#told"), "the 8 commits of the run")
+    fill(page, "#rows", "200")
+    page.press("Enter")
+    wait_answer(page)
+    meets(text_of(page, "#told"), "the 8 commits of an earlier run")
 
 
 def faults_are_told(driven, address):
@@ -598,6 +652,7 @@ TRIALS = [
     never_printed_is_told,
     never_else_is_told,
     steps_go_and_come,
+    steps_and_runs_are_one,
     faults_are_told,
     long_search_stops,
     links_hold_scripts,

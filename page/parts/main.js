@@ -65,7 +65,7 @@ function connect_buttons(page) {
   found("stop").addEventListener("click", () => page.caller.stop());
   found("choices").addEventListener("submit", (event) => event.preventDefault());
   found("choices").addEventListener("change", (event) => {
-    if (event.target.id === "rows") page.forget();
+    if (event.target.id === "rows") page.fit_journal();
     keep_script(page.held);
     page.show(page.view);
     if (event.target.id === "never") found(FIELDS[event.target.value] ?? "")?.focus();

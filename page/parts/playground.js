@@ -33,7 +33,7 @@ class Playground {
     this.caller = new Caller(module);
     this.editor = new Editor(() => this.changed());
     this.checking = new Checking(new Caller(module), this.editor);
-    this.stepper = new Stepper((words, files) => this.play(words, files), () => this.show("step"));
+    this.stepper = new Stepper((words, files) => this.play(words, files), (commits) => this.take(commits));
     this.journal = null;
     this.view = "";
     this.turn = 0;
@@ -68,7 +68,13 @@ class Playground {
 
   forget() {
     this.journal = null;
-    this.stepper.begin([]);
+  }
+
+  // With another number of syncs the journal stays where it has no more: but whoever ran then might have gone on.
+  fit_journal() {
+    if (!this.journal) return;
+    if (syncs_of(this.journal.commits) > this.rows) this.forget();
+    else if (this.journal.of !== OWN) this.journal.of = "an earlier run";
   }
 
   changed() {
@@ -269,7 +275,6 @@ class Playground {
       const commits = lines_of(answer.files[JOURNAL] ?? "");
       if (asks_never(words) || !this.is_within) this.make_room(commits);
       this.keep(commits, followed_by(words, answer.out));
-      this.stepper.begin(commits);
     } catch (error) {
       if (turn === this.turn) this.draw(await this.refused(error));
       return;
@@ -284,13 +289,18 @@ class Playground {
     keep_script(this.held);
   }
 
+  // Keeps what Why, Chart and Step show until another run is made, an outcome is shown, or a step is taken.
   keep(commits, of) {
     this.journal = { commits, of, script: this.text, text: commits.map((line) => `${line}\n`).join("") };
   }
 
+  get has_journal() {
+    return this.journal?.script === this.text;
+  }
+
   // The journal that is shown: the last one of this script, or that of a run that is made now.
   async shown_journal() {
-    if (this.journal?.script !== this.text) await this.run();
+    if (!this.has_journal) await this.run();
     return this.journal;
   }
 
@@ -322,9 +332,14 @@ class Playground {
   }
 
   async step() {
-    const drawn = await this.stepper.draw();
-    this.keep(this.stepper.commits, "your own run");
-    return drawn;
+    if (!this.has_journal) this.keep([], OWN);
+    return this.stepper.draw(this.journal);
+  }
+
+  // Shows the user's own run, of these commits.
+  async take(commits) {
+    this.keep(commits, OWN);
+    await this.show("step");
   }
 
   // What is told where a call was stopped, broke off, or was refused by the program.

@@ -1,23 +1,19 @@
-// A run that the user makes: of the commits that may come next he takes one, and takes it back.
+// A run that the user makes: of the commits that may come next one is taken, and taken back. It begins with the journal
+// that is kept, of whatever run that is.
+
+const OWN = "your own run";
 
 class Stepper {
-  constructor(play, redraw) {
+  constructor(play, show) {
     this.play = play;
-    this.redraw = redraw;
+    this.show = show;
     this.commits = [];
   }
 
-  begin(commits) {
-    this.commits = commits;
-  }
-
-  get journal() {
-    return this.commits.map((line) => `${line}\n`).join("");
-  }
-
   // Asks what may come next, and draws it with the chart of what was taken.
-  async draw() {
-    const files = { [JOURNAL]: this.journal };
+  async draw({ commits, of, text }) {
+    this.commits = commits;
+    const files = { [JOURNAL]: text };
     const next = await this.play(["next", SCRIPT, JOURNAL], files);
     const why = await this.play(["why", SCRIPT, JOURNAL], files);
     const chart = await this.play(["chart", SCRIPT, JOURNAL], files);
@@ -32,6 +28,7 @@ class Stepper {
       inside: [
         ...this.drawn_choices(choices),
         this.drawn_moves(choices),
+        ...(of === OWN || !commits.length ? [] : [drawn_hint(`These are the commits of ${of}.`)]),
         drawn_title("So far"),
         drawn_chart(chart.out, label),
         ...drawn_journal(this.commits),
@@ -62,8 +59,7 @@ class Stepper {
   // Goes to a journal, and keeps the place of the keyboard: at the button of that name, or the first choice.
   async go(commits) {
     const label = document.activeElement?.textContent;
-    this.commits = commits;
-    await this.redraw();
+    await this.show(commits);
     const all = found("answer").querySelectorAll(".moves button, .commits button");
     const buttons = [...all].filter((it) => !it.disabled);
     (buttons.find((it) => it.textContent === label) ?? buttons[0])?.focus({ preventScroll: true });
