@@ -13,7 +13,9 @@ import re
 import sys
 
 # In the order in which the scripts are read.
-SCRIPTS = ["dom", "caller", "editor", "link", "kept", "answers", "never", "checking", "stepper", "playground", "main"]
+SCRIPTS = [
+    "dom", "caller", "editor", "link", "kept", "answers", "never", "search", "checking", "stepper", "playground", "main",
+]
 # Nothing is asked for from anywhere. {} is the sum of the page's one script.
 POLICY = (
     "default-src 'none'; script-src 'sha256-{}' 'wasm-unsafe-eval'; style-src 'unsafe-inline'; "

@@ -4,6 +4,7 @@ import functools
 import http.server
 import json
 import pathlib
+import re
 import threading
 import time
 import urllib.parse
@@ -37,6 +38,12 @@ LONG = "".join(f"channel c{n}; " for n in range(6)) + "".join(
     f"process b{n} {{ let k = 0; forever {{ x <- sync recv c{n}; let k = k + x; }} }}\n"
     for n in range(6)
 )
+# The first search sees few states, as each of these commits stands alone, and the second sees all.
+LONG_BESIDE = "channel c; channel d; channel e;\nprocess clock { forever { sync always (); } }\n" + "".join(
+    f"process to_{it} {{ loop 100 {{ sync send {it} (1); }} }}\nprocess of_{it} {{ loop 100 {{ x <- sync recv {it}; }} }}\n"
+    for it in "cde"
+)
+STOPPED = "document.querySelector('#told').textContent.startsWith('Stopped after ')"
 WRONG = "channel c;\nprocess a {\n  x = 1;\n}\n"
 # Who faults beside a clock, behind a commit.
 FAULTY = "process clock { forever { sync always (); } }\nprocess bad { sync always (); let x = x; }\n"
@@ -480,10 +487,18 @@ def long_search_stops(driven, address):
     fill(page, "#script", WRONG)
     wait_until(page, "document.querySelector('#state .fault')", "a fault while the search is under way", 2)
     assert page.evaluate("playground.caller.open.size") == 1, "the search had ended before"
+    states = r"/Under way for [0-9]+ s: [0-9,]+ states seen, [0-9,]+ of them still open/"
+    wait_until(page, f"{states}.test(document.querySelector('#busy-text').textContent)", "how far it is")
+    seen = int(text_of(page, "#busy-text").split()[5].replace(",", ""))
     began = time.monotonic()
     page.click("#stop")
-    wait_until(page, "document.querySelector('#told').textContent === 'Stopped.'", "the stop", 2)
+    wait_until(page, STOPPED, "the stop", 2)
     print(f"a long search is stopped in {1000 * (time.monotonic() - began):.0f} ms")
+    # What was told last stays.
+    meets(text_of(page, ".asked"), "pcml outcomes script.pcml")
+    last = [int(number.replace(",", "")) for number in re.findall(r"[0-9,]+[0-9]", text_of(page, "#answer .hint"))]
+    assert last[0] >= seen > 0 and last[0] > last[1] > 0, (last, seen)
+    meets(text_of(page, "#answer"), "The search had seen ", "still open. What was asked is not known.", "or within a bound")
     fill(page, "#script", LONG)
     page.click("[data-view=outcomes]")
     wait_until(page, "!document.querySelector('#busy').hidden", "that it takes long")
@@ -494,7 +509,19 @@ def long_search_stops(driven, address):
     page.click("[data-view=outcomes]")
     wait_until(page, "!document.querySelector('#busy').hidden", "that it takes long")
     page.press("Escape")
-    wait_until(page, "document.querySelector('#told').textContent === 'Stopped.'", "the stop by a key", 2)
+    wait_until(page, STOPPED, "the stop by a key", 2)
+    meets(text_of(page, "#answer"), "What was asked is not known.")
+    # Behind the first search the second is told.
+    fill(page, "#script", LONG_BESIDE)
+    page.click("[data-view=outcomes]")
+    wait_until(page, "document.querySelector('#busy-text').textContent.includes('seen in the second search')", "it")
+    page.click("#stop")
+    wait_until(page, STOPPED, "the stop of the second search", 2)
+    meets(text_of(page, "#answer"), "The second search, for who is stranded, had seen ")
+    # No line of these is left in an answer.
+    fill(page, "#script", BESIDE)
+    press_view(page, "outcomes")
+    assert "a state takes" not in text_of(page, "#answer")
 
 
 def links_hold_scripts(driven, address):

@@ -48,31 +48,38 @@ class Caller {
   begin() {
     const worker = new Worker(this.source);
     worker.onmessage = ({ data }) => {
-      const { resolve } = this.open.get(data.number);
+      const asked = this.open.get(data.number);
+      // A message may still come of a worker that was ended.
+      if (!asked) return;
+      if ("line" in data) {
+        asked.hear(data.line);
+        return;
+      }
       this.open.delete(data.number);
-      resolve(data);
+      asked.resolve(data);
     };
     worker.onerror = ({ message }) => this.fail(new Error(message));
     this.worker = worker;
     this.module.then((module) => worker.postMessage({ module }), (error) => this.fail(error));
   }
 
-  // What a call of the program came to, as bytes. The files are bytes by their names.
-  ask(words, files) {
+  // What a call of the program came to, as bytes. The files are bytes by their names. Where somebody hears, he is told
+  // how far a search is while it is under way.
+  ask(words, files, hear = null) {
     this.number += 1;
     const { number, worker } = this;
     return new Promise((resolve, reject) => {
-      this.open.set(number, { resolve, reject });
-      this.module.then(() => worker.postMessage({ number, words, files }), reject);
+      this.open.set(number, { resolve, reject, hear });
+      this.module.then(() => worker.postMessage({ number, words, files, is_heard: hear !== null }), reject);
     });
   }
 
   // The same as texts.
-  async call(words, files) {
+  async call(words, files, hear = null) {
     const encoder = new TextEncoder();
     const decoder = new TextDecoder();
     const bytes = Object.entries(files).map(([name, text]) => [name, encoder.encode(text)]);
-    const answer = await this.ask(words, Object.fromEntries(bytes));
+    const answer = await this.ask(words, Object.fromEntries(bytes), hear);
     const kept = Object.entries(answer.files).map(([name, text]) => [name, decoder.decode(text)]);
     return {
       ...answer,

@@ -34,6 +34,7 @@ class Playground {
     this.editor = new Editor(() => this.changed());
     this.checking = new Checking(new Caller(module), this.editor);
     this.stepper = new Stepper((words, files) => this.play(words, files), (commits) => this.take(commits));
+    this.search = new Search();
     this.journal = null;
     this.view = "";
     this.turn = 0;
@@ -107,7 +108,9 @@ class Playground {
   // Calls the program on the script as it stood when the view was asked for.
   async play(words, files = {}) {
     const all = this.bounded(words);
-    const answer = await this.caller.call(all, { [SCRIPT]: this.text, ...files });
+    this.search.begin(all);
+    const hear = words[0] === "outcomes" ? (line) => this.search.hear(line) : null;
+    const answer = await this.caller.call(all, { [SCRIPT]: this.text, ...files }, hear);
     if (answer.broke || (answer.status !== 0 && answer.out === "")) throw new Refusal(answer, all);
     return { ...answer, words: all };
   }
@@ -165,16 +168,15 @@ class Playground {
     this.editor.mark_waiting(waiting);
   }
 
-  // While a call takes long, how long, and a button that stops it.
+  // While a call takes long, how long and how far it is, and a button that stops it.
   begin_busy() {
     const began = performance.now();
     clearInterval(this.ticking);
     this.ticking = setInterval(() => {
-      const spent = performance.now() - began;
-      if (spent < SOON_BUSY) return;
+      if (performance.now() - began < SOON_BUSY) return;
       found("busy").hidden = false;
       this.set_dim(true);
-      found("busy-text").textContent = `Under way for ${Math.floor(spent / 1000)} s`;
+      found("busy-text").textContent = `Under way for ${this.search.seconds} s${this.search.how_far}`;
     }, SOON_BUSY);
   }
 
@@ -344,10 +346,7 @@ class Playground {
 
   // What is told where a call was stopped, broke off, or was refused by the program.
   async refused(error) {
-    if (error instanceof Stopped) {
-      const fewer = this.question ? "fewer messages are sent" : "a process may make fewer syncs";
-      return { told: "Stopped.", inside: [drawn_hint(`A search is shorter where ${fewer}.`)] };
-    }
+    if (error instanceof Stopped) return this.search.stopped();
     if (error instanceof Refusal) return error.drawn(this.checking.caller, this.editor);
     return { told: "The page failed.", is_fault: true, inside: [made("p", {}, String(error))] };
   }

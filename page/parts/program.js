@@ -14,6 +14,9 @@ const NO_PATH = 0x1000;
 const FIRST_FILE = 3;
 const WAKE = 1;
 const PRIVATE = 128;
+const ERRORS = 2;
+// What the program tells of a search while it is under way, where its standard error is a terminal.
+const PROGRESS = /^(?:a state takes |[0-9]+ states seen, )/;
 
 const encoder = new TextEncoder();
 const decoder = new TextDecoder();
@@ -37,10 +40,14 @@ function joined(parts) {
   return whole;
 }
 
-// What one call sees: its words, its files by name, and its streams. The standard input is empty.
+// What one call sees: its words, its files by name, and its streams. The standard input is empty. The standard error is a
+// terminal where somebody is told how far a search is.
 class System {
-  constructor(words, files) {
+  constructor(words, files, tell_line) {
     this.words = ["pcml", ...words];
+    this.tell_line = tell_line;
+    this.decoder = new TextDecoder();
+    this.unended = "";
     this.files = new Map();
     this.opened = new Map();
     this.streams = { 1: [], 2: [] };
@@ -103,6 +110,10 @@ class System {
 
   write(handle, from, length) {
     const part = this.bytes_at(from, length).slice();
+    if (this.tell_line && handle === ERRORS) {
+      this.hear(part);
+      return length;
+    }
     if (this.streams[handle]) {
       this.streams[handle].push(part);
       return length;
@@ -111,6 +122,31 @@ class System {
     if (!opened) return BigInt(this.fail(BAD_FILE));
     opened.file.bytes = joined([opened.file.bytes, part]);
     return length;
+  }
+
+  // Of the standard error tells how far a search is, line by line, and keeps what is no such line.
+  hear(part) {
+    const lines = (this.unended + this.decoder.decode(part, { stream: true })).split("\n");
+    this.unended = lines.pop();
+    for (const line of lines) {
+      if (PROGRESS.test(line)) this.tell_line(line);
+      else this.streams[ERRORS].push(encoder.encode(`${line}\n`));
+    }
+  }
+
+  // What was told on a stream.
+  told_on(stream) {
+    const rest = stream === ERRORS ? [encoder.encode(this.unended)] : [];
+    return joined([...this.streams[stream], ...rest]);
+  }
+
+  // The time since this worker began, as a struct timespec.
+  time(_clock, to) {
+    const now = performance.now();
+    const told = new DataView(this.memory.buffer, Number(to), 16);
+    told.setBigInt64(0, BigInt(Math.floor(now / 1000)), true);
+    told.setBigInt64(8, BigInt(Math.floor((now % 1000) * 1e6)), true);
+    return 0;
   }
 
   // Tells of a file that it is a regular one, how long it is, and its number.
@@ -159,7 +195,8 @@ class System {
       write: (handle, from, length) => this.write(handle, from, length),
       __write: (handle, from, length) => this.write(handle, from, length),
       close: done,
-      isatty: done,
+      isatty: (handle) => Number(this.tell_line !== null && handle === ERRORS),
+      clock_gettime: (clock, to) => this.time(clock, to),
       statx: (...all) => this.tell(...all),
       rename: (from, to) => this.rename(from, to),
       unlink: (name) => this.remove(name),
@@ -184,8 +221,8 @@ function imports(system) {
 }
 
 // Runs the program. Its status is null where it did not come to an end by itself, and `broke` says why.
-function run(words, files) {
-  const system = new System(words, files);
+function run(words, files, tell_line) {
+  const system = new System(words, files, tell_line);
   const began = performance.now();
   let status = null;
   let broke = "";
@@ -199,11 +236,13 @@ function run(words, files) {
     else broke = String(error);
   }
   const kept = Object.fromEntries([...system.files].map(([name, file]) => [name, file.bytes]));
-  const [out, err] = [joined(system.streams[1]), joined(system.streams[2])];
+  const [out, err] = [system.told_on(1), system.told_on(ERRORS)];
   return { status, broke, out, err, files: kept, milliseconds: performance.now() - began };
 }
 
 self.onmessage = ({ data }) => {
-  if (data.module) compiled = data.module;
-  else self.postMessage({ number: data.number, ...run(data.words, data.files) });
+  const { module, number, words, files, is_heard } = data;
+  const tell_line = is_heard ? (line) => self.postMessage({ number, line }) : null;
+  if (module) compiled = module;
+  else self.postMessage({ number, ...run(words, files, tell_line) });
 };
