@@ -43,6 +43,10 @@ LONG_BESIDE = "channel c; channel d; channel e;\nprocess clock { forever { sync 
     f"process to_{it} {{ loop 100 {{ sync send {it} (1); }} }}\nprocess of_{it} {{ loop 100 {{ x <- sync recv {it}; }} }}\n"
     for it in "cde"
 )
+# Nine that make many commits: wider than a narrow screen, and longer.
+MANY = "channel c;\n" + "".join(
+    f"process process_{n} {{ loop 4 {{ sync always (); }} sync send c ({n}); print {n}; }}\n" for n in range(8)
+) + "process gathering { loop 8 { x <- sync recv c; } }\n"
 STOPPED = "document.querySelector('#told').textContent.startsWith('Stopped after ')"
 WRONG = "channel c;\nprocess a {\n  x = 1;\n}\n"
 # Who faults beside a clock, behind a commit.
@@ -627,6 +631,51 @@ def fits_a_narrow_screen(driven, address):
         assert wide <= NARROW[0], f"{view} is {wide} wide"
 
 
+def wide_answers_scroll(driven, address):
+    """A table shows on which side there is more, and a chart keeps the names of its processes in view."""
+    page = opened(driven, address, NARROW)
+    fill(page, "#script", MANY)
+    press_view(page, "outcomes")
+    table = "document.querySelector('#answer .wide')"
+    assert sides_of(page) == {"left": False, "right": True, "told": True}
+    page.evaluate(f"{table}.scrollBy(50, 0)")
+    wait_until(page, f"{table}.closest('.has-left')", "the shade at the left")
+    assert sides_of(page) == {"left": True, "right": True, "told": True}
+    number = page.evaluate("document.querySelector('#answer tbody th').getBoundingClientRect().left")
+    assert number == page.evaluate(f"{table}.getBoundingClientRect().left"), "the outcome's number is out of view"
+    page.evaluate(f"{table}.scrollBy(5000, 0)")
+    wait_until(page, f"!{table}.closest('.has-right')", "the end of the table")
+    assert sides_of(page) == {"left": True, "right": False, "told": False}
+    press_view(page, "chart")
+    wait_until(page, "document.querySelector('.has-right > .picture')", "that the chart is wider")
+    names = "[...document.querySelector('.picture').shadowRoot.querySelectorAll('.names text')]"
+    assert page.evaluate(f"{names}.map((it) => it.textContent)") == [f"process_{n}" for n in range(8)] + ["gathering"]
+    page.evaluate("document.querySelector('.picture').scrollBy(120, 500)")
+    above = page.evaluate(
+        "document.querySelector('.picture').shadowRoot.querySelector('.names').getBoundingClientRect().top"
+        " - document.querySelector('.picture').getBoundingClientRect().top"
+    )
+    assert page.evaluate("document.querySelector('.picture').scrollTop") > 100, "the chart does not scroll"
+    assert above == 0, f"the names are {above} below the top of the chart"
+    # A name stands over its line.
+    over = page.evaluate(f"{names}.at(-1).getBoundingClientRect().left")
+    below = page.evaluate(
+        "[...document.querySelector('.picture').shadowRoot.querySelectorAll('svg:not(.names) > text')]"
+        ".find((it) => it.textContent === 'gathering').getBoundingClientRect().left"
+    )
+    assert over == below, (over, below)
+    choose_example(page, "ping_pong")
+    assert sides_of(page) == {"left": False, "right": False, "told": False}
+
+
+def sides_of(page):
+    return page.evaluate(
+        "(() => { const frame = document.querySelector('#answer .sideways'); const has = (it) => frame.classList.contains(it);"
+        " return { left: has('has-left'), right: has('has-right'),"
+        " told: getComputedStyle(frame.querySelector('.more')).visibility === 'visible' }; })()"
+    )
+
+
 def old_browsers_are_told(driven, address):
     page = driven.page(*WIDE, FRESH + "WebAssembly.validate = () => false;")
     page.open(address)
@@ -688,6 +737,7 @@ TRIALS = [
     keyboard_reaches_all,
     all_is_named,
     fits_a_narrow_screen,
+    wide_answers_scroll,
     old_browsers_are_told,
     language_can_be_tried,
 ]

@@ -81,8 +81,13 @@ function drawn_ends(stands) {
     made("td", {}, made("span", { class: it.stand }, it.stand + it.fault)),
     made("td", { class: "mono" }, it.printed)));
   const head = ["Process", "End", "Printed"].map((name) => made("th", { scope: "col" }, name));
-  return made("div", { class: "wide" },
-    made("table", {}, made("thead", {}, made("tr", {}, ...head)), made("tbody", {}, ...rows)));
+  return drawn_table("How each process ends", { head, body: made("tbody", {}, ...rows) });
+}
+
+// A table in a frame of its own, so that a wide one scrolls.
+function drawn_table(label, { head = [], body, id = "" }) {
+  const table = made("table", id ? { id } : {}, ...(head.length ? [made("thead", {}, made("tr", {}, ...head))] : []), body);
+  return framed(made("div", { class: "wide", role: "group" }, table), label);
 }
 
 // A heading with buttons behind it.
@@ -109,7 +114,7 @@ function drawn_outcomes(outcomes, follow) {
   const head = ["Outcome", ...names].map((name) => made("th", { scope: "col" }, name));
   head.push(made("td", { class: "last" }));
   const body = made("tbody", {}, ...outcomes.slice(0, MOST_OUTCOMES).map((it) => drawn_outcome(it, follow)));
-  const block = made("div", { class: "wide" }, made("table", {}, made("thead", {}, made("tr", {}, ...head)), body));
+  const block = drawn_table("Outcomes", { head, body });
   const rest = outcomes.slice(MOST_OUTCOMES);
   if (!rest.length) return [block];
   const more = made_button(`Show ${counted(rest.length, "more outcome")}`, () => {
@@ -135,14 +140,29 @@ function drawn_stranded(stranded, follow) {
       made("td", {}, made("span", { class: "stranded" }, `stranded${after}`)),
       made("td", { class: "last" }, made_button("Show", () => follow(name), label)));
   });
-  const table = made("table", { id: "stranded" }, made("tbody", {}, ...rows));
   const title = drawn_title("Stranded, though others go on");
-  return [title, made("div", { class: "wide" }, table)];
+  return [title, drawn_table("Who is stranded", { body: made("tbody", {}, ...rows), id: "stranded" })];
+}
+
+// Where the names of the processes stand in a chart: above the lines of life.
+const NAMES = { line: "42", top: 26, height: 26 };
+
+// The names once more, over those of the chart, where they stay in view while what is below them scrolls.
+function drawn_names(chart) {
+  const names = chart.cloneNode(false);
+  const width = chart.getAttribute("width");
+  names.setAttribute("class", "names");
+  names.setAttribute("height", NAMES.height);
+  names.setAttribute("viewBox", `0 ${NAMES.top} ${width} ${NAMES.height}`);
+  const texts = [...chart.children].filter((it) => it.localName === "text" && it.getAttribute("y") === NAMES.line);
+  names.append(...texts.map((it) => it.cloneNode(true)));
+  return names;
 }
 
 // The chart's own rules are for black on white. These are of the page, and hold where the chart is drawn.
 const CHART_RULES = `
-  svg { display: block; color: var(--ink); background: var(--paper); }
+  svg { grid-area: 1 / 1; display: block; color: var(--ink); background: var(--paper); }
+  .names { position: sticky; top: 0; margin-top: ${NAMES.top}px; }
   rect { fill: var(--paper) !important; }
   text { fill: var(--ink); stroke: var(--paper) !important; }
   path { stroke: var(--ink) !important; }
@@ -154,11 +174,11 @@ const CHART_RULES = `
 
 // The chart, in a tree of its own, so that its rules are none of the page.
 function drawn_chart(svg, label) {
-  const place = made("div", { class: "picture", role: "img", tabindex: "0", "aria-label": label });
+  const place = made("div", { class: "picture", role: "img", tabindex: "0" });
   const read = new DOMParser().parseFromString(svg, "image/svg+xml");
-  const tree = place.attachShadow({ mode: "open" });
-  tree.append(document.importNode(read.documentElement, true), made("style", {}, CHART_RULES));
-  return place;
+  const chart = document.importNode(read.documentElement, true);
+  place.attachShadow({ mode: "open" }).append(chart, drawn_names(chart), made("style", {}, CHART_RULES));
+  return framed(place, label);
 }
 
 // A button that keeps a text as a file.

@@ -20,6 +20,25 @@ function made_button(text, pressed, attributes = {}) {
   return made("button", { type: "button", click: pressed, ...attributes }, text);
 }
 
+// So many pixels are a margin.
+const MARGIN = 16;
+
+// Puts what scrolls sideways into a frame that shows on which side of it there is more.
+function framed(scroller, label) {
+  const more = made("p", { class: "more", "aria-hidden": "true" }, "more to the right \u2192");
+  const frame = made("div", { class: "sideways" }, more, scroller);
+  const look = () => {
+    const left = scroller.scrollLeft;
+    frame.classList.toggle("has-left", left > 0);
+    frame.classList.toggle("has-right", scroller.scrollWidth - scroller.clientWidth - left > MARGIN);
+  };
+  scroller.setAttribute("aria-label", label);
+  scroller.addEventListener("scroll", look, { passive: true });
+  const watching = new ResizeObserver(look);
+  for (const it of [scroller, ...scroller.children]) watching.observe(it);
+  return frame;
+}
+
 // Puts a text where it can be pasted from. Where the browser keeps that from a page, a selection is copied.
 async function copy(text) {
   try {
