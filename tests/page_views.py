@@ -40,7 +40,8 @@ LONG = "".join(f"channel c{n}; " for n in range(6)) + "".join(
 )
 # The first search sees few states, as each of these commits stands alone, and the second sees all.
 LONG_BESIDE = "channel c; channel d; channel e;\nprocess clock { forever { sync always (); } }\n" + "".join(
-    f"process to_{it} {{ loop 100 {{ sync send {it} (1); }} }}\nprocess of_{it} {{ loop 100 {{ x <- sync recv {it}; }} }}\n"
+    f"process to_{it} {{ loop 100 {{ sync send {it} (1); }} }}\n"
+    f"process of_{it} {{ loop 100 {{ x <- sync recv {it}; }} }}\n"
     for it in "cde"
 )
 # Nine that make many commits: wider than a narrow screen, and longer.
@@ -421,7 +422,7 @@ def press_move(page, label):
 
 
 def steps_and_runs_are_one(driven, address):
-    """Step begins with the run's commits, Why and Chart show the steps, and a run takes their place once it is pressed."""
+    """Step begins with the run's commits, Why and Chart show the steps, and a run replaces them once it is pressed."""
     page = opened(driven, address)
     choose_example(page, "fan_in")
     press_view(page, "run")
@@ -491,7 +492,7 @@ def long_search_stops(driven, address):
     fill(page, "#script", WRONG)
     wait_until(page, "document.querySelector('#state .fault')", "a fault while the search is under way", 2)
     assert page.evaluate("playground.caller.open.size") == 1, "the search had ended before"
-    states = r"/Under way for [0-9]+ s: [0-9,]+ states seen, [0-9,]+ of them still open/"
+    states = r"/Under way for [0-9]+ s: [0-9,]+ states seen, [0-9,]+ of them still to look at/"
     wait_until(page, f"{states}.test(document.querySelector('#busy-text').textContent)", "how far it is")
     seen = int(text_of(page, "#busy-text").split()[5].replace(",", ""))
     began = time.monotonic()
@@ -502,7 +503,7 @@ def long_search_stops(driven, address):
     meets(text_of(page, ".asked"), "pcml outcomes script.pcml")
     last = [int(number.replace(",", "")) for number in re.findall(r"[0-9,]+[0-9]", text_of(page, "#answer .hint"))]
     assert last[0] >= seen > 0 and last[0] > last[1] > 0, (last, seen)
-    meets(text_of(page, "#answer"), "The search had seen ", "still open. What was asked is not known.", "or within a bound")
+    meets(text_of(page, "#answer"), "The search had seen ", "still to look at. The answer is not known.", "or within")
     fill(page, "#script", LONG)
     page.click("[data-view=outcomes]")
     wait_until(page, "!document.querySelector('#busy').hidden", "that it takes long")
@@ -514,7 +515,7 @@ def long_search_stops(driven, address):
     wait_until(page, "!document.querySelector('#busy').hidden", "that it takes long")
     page.press("Escape")
     wait_until(page, STOPPED, "the stop by a key", 2)
-    meets(text_of(page, "#answer"), "What was asked is not known.")
+    meets(text_of(page, "#answer"), "The answer is not known.")
     # Behind the first search the second is told.
     fill(page, "#script", LONG_BESIDE)
     page.click("[data-view=outcomes]")
@@ -551,7 +552,7 @@ def links_hold_scripts(driven, address):
 
 
 def reload_keeps_script(driven, address):
-    """Its text, its syncs, and which runs Outcomes searches: of this tab before another's, and of a link before both."""
+    """Its text, its syncs, and which runs are searched: of this tab before another's, and of a link before both."""
     opened(driven, address).close()
     page = opened(driven, address, before=NOTE_ANSWER)
     fill(page, "#script", BESIDE)
@@ -664,13 +665,21 @@ def wide_answers_scroll(driven, address):
         ".find((it) => it.textContent === 'gathering').getBoundingClientRect().left"
     )
     assert over == below, (over, below)
+    # A step leads to the end of the chart, and no further to the left.
+    press_view(page, "step")
+    page.evaluate("document.querySelector('.picture').scrollBy(50, 0)")
+    press_move(page, "Take back")
+    at = page.evaluate("(({ scrollLeft, scrollTop, clientHeight, scrollHeight }) =>"
+                       " [scrollLeft, scrollHeight - clientHeight - scrollTop])(document.querySelector('.picture'))")
+    assert at[0] == 50 and at[1] < 1, at
     choose_example(page, "ping_pong")
     assert sides_of(page) == {"left": False, "right": False, "told": False}
 
 
 def sides_of(page):
     return page.evaluate(
-        "(() => { const frame = document.querySelector('#answer .sideways'); const has = (it) => frame.classList.contains(it);"
+        "(() => { const frame = document.querySelector('#answer .sideways');"
+        " const has = (it) => frame.classList.contains(it);"
         " return { left: has('has-left'), right: has('has-right'),"
         " told: getComputedStyle(frame.querySelector('.more')).visibility === 'visible' }; })()"
     )
@@ -766,7 +775,7 @@ def take_picture(page, folder, view, shape, is_dark):
 
 
 def take_pictures(driven, address, folder):
-    """A picture of each view, of what must never happen and of a fault, wide and narrow, light and dark."""
+    """A picture of each view, of many processes, of a search and its stop, of what must never happen and of a fault."""
     folder.mkdir(parents=True, exist_ok=True)
     for (width, height), shape in ((WIDE, "wide"), (NARROW, "narrow")):
         for is_dark in (False, True):
@@ -779,6 +788,18 @@ def take_pictures(driven, address, folder):
             press_view(page, "outcomes")
             ask_never(page, "--never", "printed", "client=42")
             take_picture(page, folder, "never", shape, is_dark)
+            choose(page, "#never", "")
+            fill(page, "#script", MANY)
+            for view in ("outcomes", "chart", "step"):
+                press_view(page, view)
+                take_picture(page, folder, f"many-{view}", shape, is_dark)
+            fill(page, "#script", LONG)
+            page.click("[data-view=outcomes]")
+            wait_until(page, "document.querySelector('#busy-text').textContent.includes('seen')", "how far it is")
+            take_picture(page, folder, "search", shape, is_dark)
+            page.click("#stop")
+            wait_until(page, STOPPED, "the stop")
+            take_picture(page, folder, "stopped", shape, is_dark)
             press_view(page, "run")
             fill(page, "#script", WRONG)
             wait_until(page, "document.querySelector('#state .fault')", "the fault")

@@ -86,7 +86,8 @@ function drawn_ends(stands) {
 
 // A table in a frame of its own, so that a wide one scrolls.
 function drawn_table(label, { head = [], body, id = "" }) {
-  const table = made("table", id ? { id } : {}, ...(head.length ? [made("thead", {}, made("tr", {}, ...head))] : []), body);
+  const heads = head.length ? [made("thead", {}, made("tr", {}, ...head))] : [];
+  const table = made("table", id ? { id } : {}, ...heads, body);
   return framed(made("div", { class: "wide", role: "group" }, table), label);
 }
 

@@ -421,9 +421,9 @@ function told_of_stranded(stranded) {
 }
 
 function told_of_outcomes(count, stranded, extent, words, status) {
-  if (extent === "first") return `${kind_of_outcomes(count, words)}, the first that was found. The search stopped there.`;
-  if (words.includes("--need") && count === 0) return told_of_needed(stranded, extent, status) + told_ending(extent);
   const kind = kind_of_outcomes(count, words);
+  if (extent === "first") return `${kind}, the first that was found. The search stopped there.`;
+  if (words.includes("--need") && count === 0) return told_of_needed(stranded, extent, status) + told_ending(extent);
   const [, within] = /^all within ([0-9]+) syncs/.exec(extent) ?? [];
   if (within) return `${kind}, and that is all within ${counted(Number(within), "sync")} a process.`;
   if (extent.startsWith("all")) return `${kind}, and that is all.${told_ending(extent)}${told_of_stranded(stranded)}`;

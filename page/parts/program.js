@@ -40,8 +40,8 @@ function joined(parts) {
   return whole;
 }
 
-// What one call sees: its words, its files by name, and its streams. The standard input is empty. The standard error is a
-// terminal where somebody is told how far a search is.
+// What one call sees: its words, its files by name, and its streams. The standard input is empty. The standard error is
+// a terminal where somebody is told how far a search is.
 class System {
   constructor(words, files, tell_line) {
     this.words = ["pcml", ...words];

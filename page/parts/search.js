@@ -24,7 +24,7 @@ class Search {
   // Behind the first search another looks for who is stranded.
   get how_far() {
     const which = this.count > 1 ? " in the second search" : "";
-    return this.told ? `: ${this.told.seen} seen${which}, ${this.told.open} of them still open` : which;
+    return this.told ? `: ${this.told.seen} seen${which}, ${this.told.open} of them still to look at` : which;
   }
 
   // What is left on the page once it was stopped: how far it was, and what makes it shorter.
@@ -36,11 +36,11 @@ class Search {
   }
 
   told_so_far() {
-    const not_known = "What was asked is not known.";
+    const not_known = "The answer is not known.";
     if (!this.told) return `The program had not told yet how many states it had seen. ${not_known}`;
     const { seen, open } = this.told;
     const which = this.count > 1 ? "The second search, for who is stranded," : "The search";
-    return `${which} had seen ${seen}, of which ${open} were still open. ${not_known}`;
+    return `${which} had seen ${seen}, with ${open} of them still to look at. ${not_known}`;
   }
 
   told_shorter() {

@@ -56,10 +56,14 @@ class Stepper {
     return this.go([...this.commits, line]);
   }
 
-  // Goes to a journal, and keeps the place of the keyboard: at the button of that name, or the first choice.
+  // Goes to a journal, and to the end of its chart. It keeps the place of the keyboard: at the button of that name, or
+  // at the first choice.
   async go(commits) {
     const label = document.activeElement?.textContent;
+    const picture = () => found("answer").querySelector(".picture");
+    const left = picture()?.scrollLeft ?? 0;
     await this.show(commits);
+    picture()?.scrollTo(left, picture().scrollHeight);
     const all = found("answer").querySelectorAll(".moves button, .commits button");
     const buttons = [...all].filter((it) => !it.disabled);
     (buttons.find((it) => it.textContent === label) ?? buttons[0])?.focus({ preventScroll: true });
