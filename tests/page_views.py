@@ -209,6 +209,13 @@ def bound_is_told(driven, address):
     page.click("#answer tbody button")
     wait_answer(page)
     meets(text_of(page, "#told"), "commits of outcome 1.")
+    fill(page, "#script", "process long { loop 1100 { sync always (); } }\n")
+    press_view(page, "outcomes")
+    meets(text_of(page, "#told"), "1 outcome, and that is all. Every run ends within 1100 commits.")
+    page.click("#answer tbody button")
+    wait_answer(page)
+    meets(text_of(page, "#told"), "In this run a process makes more than 1,024 syncs. So only its journal is shown.")
+    meets(text_of(page, "#answer"), "1100 long.1099.0 always ()")
     choose_example(page, "fan_in")
     press_view(page, "outcomes")
     choose(page, "#extent", "within")
@@ -432,9 +439,17 @@ def steps_and_runs_are_one(driven, address):
     meets(text_of(page, "#told"), "8 commits taken. No commit may come next.")
     meets(text_of(page, "#answer"), "These are the commits of the run.")
     assert page.evaluate(journal) == ran
-    for count in (7, 6):
-        press_move(page, "Take back")
-        meets(text_of(page, "#told"), f"{count} commits taken.")
+    # Each press counts, though the answer to the one before has not come yet.
+    back = "[...document.querySelectorAll('.moves button')].find((it) => it.textContent === 'Take back')"
+    page.evaluate(f"(() => {{ const it = {back}; it.click(); it.click(); }})()")
+    wait_answer(page)
+    meets(text_of(page, "#told"), "6 commits taken.")
+    # A choice is taken once.
+    page.evaluate("(() => { const it = document.querySelector('.commits button'); it.click(); it.click(); })()")
+    wait_answer(page)
+    meets(text_of(page, "#told"), "7 commits taken.")
+    press_move(page, "Take back")
+    meets(text_of(page, "#told"), "6 commits taken.")
     assert "commits of the run" not in text_of(page, "#answer")
     stepped = page.evaluate(journal)
     assert ran.startswith(stepped) and stepped.count("\n") == 6
@@ -573,7 +588,11 @@ def reload_keeps_script(driven, address):
     linked = opened(driven, link, before=NOTE_ANSWER)
     assert linked.evaluate("playground.held") == {"text": BESIDE, "rows": 9, "is_within": True}
     assert linked.evaluate("location.hash") != "", "a link that is there stays"
-    # What is written then is no script of the link any more.
+    # Neither the syncs that are chosen then nor the script that is written are of the link any more.
+    fill(linked, "#rows", "12")
+    linked.press("Enter")
+    load_again(linked)
+    assert linked.evaluate("playground.held") == {"text": BESIDE, "rows": 12, "is_within": True}
     fill(linked, "#script", "process other { }\n")
     load_again(linked)
     assert linked.evaluate("playground.editor.text") == "process other { }\n"

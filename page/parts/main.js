@@ -66,7 +66,7 @@ function connect_buttons(page) {
   found("choices").addEventListener("submit", (event) => event.preventDefault());
   found("choices").addEventListener("change", (event) => {
     if (event.target.id === "rows") page.fit_journal();
-    keep_script(page.held);
+    if (["rows", "extent"].includes(event.target.id)) page.keep_held();
     page.show(page.view);
     if (event.target.id === "never") found(FIELDS[event.target.value] ?? "")?.focus();
   });

@@ -56,6 +56,12 @@ class Playground {
     return found("extent").value === "within";
   }
 
+  // Keeps what was changed here, which a link in the address does not hold.
+  keep_held() {
+    leave_link();
+    keep_script(this.held);
+  }
+
   // Puts a script into the editor. What was made of an earlier one is no journal of it.
   load({ text, rows, is_within = false }) {
     found("rows").value = rows;
@@ -80,8 +86,7 @@ class Playground {
 
   changed() {
     this.forget();
-    leave_link();
-    keep_script(this.held);
+    this.keep_held();
     this.checking.soon();
     found("example").value = "";
     this.set_old(this.view !== "" && !PAGES.includes(this.view));
@@ -275,6 +280,7 @@ class Playground {
     try {
       const answer = await this.play([...words, "--journal", JOURNAL]);
       const commits = lines_of(answer.files[JOURNAL] ?? "");
+      if (syncs_of(commits) > MOST_ROWS) throw new TooLong(commits);
       if (asks_never(words) || !this.is_within) this.make_room(commits);
       this.keep(commits, followed_by(words, answer.out));
     } catch (error) {
@@ -288,7 +294,7 @@ class Playground {
   // may then make these, and the one at which it waits.
   make_room(commits) {
     found("rows").value = Math.min(MOST_ROWS, Math.max(this.rows, syncs_of(commits) + 1));
-    keep_script(this.held);
+    this.keep_held();
   }
 
   // Keeps what Why, Chart and Step show until another run is made, an outcome is shown, or a step is taken.
@@ -344,11 +350,25 @@ class Playground {
     await this.show("step");
   }
 
-  // What is told where a call was stopped, broke off, or was refused by the program.
+  // What is told where a call was stopped, broke off, or was refused by the program, or where a run is too long.
   async refused(error) {
     if (error instanceof Stopped) return this.search.stopped();
+    if (error instanceof TooLong) return error.drawn();
     if (error instanceof Refusal) return error.drawn(this.checking.caller, this.editor);
     return { told: "The page failed.", is_fault: true, inside: [made("p", {}, String(error))] };
+  }
+}
+
+// A run in which a process makes more syncs than the page lets one make.
+class TooLong extends Error {
+  constructor(commits) {
+    super("too long");
+    this.commits = commits;
+  }
+
+  drawn() {
+    const told = `In this run a process makes more than ${counted(MOST_ROWS, "sync")}. So only its journal is shown.`;
+    return { told, inside: drawn_journal(this.commits) };
   }
 }
 

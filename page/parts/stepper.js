@@ -18,42 +18,41 @@ class Stepper {
     const why = await this.play(["why", SCRIPT, JOURNAL], files);
     const chart = await this.play(["chart", SCRIPT, JOURNAL], files);
     const choices = lines_of(next.out);
-    const told = `${counted(this.commits.length, "commit")} taken. ` + (choices.length
+    const told = `${counted(commits.length, "commit")} taken. ` + (choices.length
       ? `${choices.length} may come next.` : "No commit may come next.");
-    const label = `Chart of ${counted(this.commits.length, "commit")}`;
+    const label = `Chart of ${counted(commits.length, "commit")}`;
     return {
       told,
       asked: next,
       waiting: waiting_in(why.out),
       inside: [
-        ...this.drawn_choices(choices),
-        this.drawn_moves(choices),
+        ...this.drawn_choices(commits, choices),
+        this.drawn_moves(commits, choices),
         ...(of === OWN || !commits.length ? [] : [drawn_hint(`These are the commits of ${of}.`)]),
         drawn_title("So far"),
         drawn_chart(chart.out, label),
-        ...drawn_journal(this.commits),
+        ...drawn_journal(commits),
       ],
     };
   }
 
-  drawn_choices(choices) {
+  // A choice is of the commits that it was drawn behind, however often it is pressed.
+  drawn_choices(commits, choices) {
     const end = "The run is at its end. Take commits back to go another way.";
     if (!choices.length) return [made("p", { class: "hint" }, end)];
-    const buttons = choices.map((line) => made("li", {}, made_button(line, () => this.take(line))));
+    const buttons = choices.map((line) => made("li", {}, made_button(line, () => this.go([...commits, line]))));
     return [made("ul", { class: "commits", "aria-label": "Commits that may come next" }, ...buttons)];
   }
 
-  drawn_moves(choices) {
+  drawn_moves(commits, choices) {
     const back = made_button("Take back", () => this.go(this.commits.slice(0, -1)));
     const over = made_button("Start over", () => this.go([]));
-    const any = made_button("Take any", () => this.take(choices[Math.floor(Math.random() * choices.length)]));
-    back.disabled = over.disabled = !this.commits.length;
+    const any = made_button("Take any", () => {
+      this.go([...commits, choices[Math.floor(Math.random() * choices.length)]]);
+    });
+    back.disabled = over.disabled = !commits.length;
     any.disabled = !choices.length;
     return made("div", { class: "moves" }, back, over, any);
-  }
-
-  take(line) {
-    return this.go([...this.commits, line]);
   }
 
   // Goes to a journal, and to the end of its chart. It keeps the place of the keyboard: at the button of that name, or
@@ -62,6 +61,7 @@ class Stepper {
     const label = document.activeElement?.textContent;
     const picture = () => found("answer").querySelector(".picture");
     const left = picture()?.scrollLeft ?? 0;
+    this.commits = commits;
     await this.show(commits);
     picture()?.scrollTo(left, picture().scrollHeight);
     const all = found("answer").querySelectorAll(".moves button, .commits button");
