@@ -202,7 +202,7 @@ def bound_is_told(driven, address):
     bounds_are(page, True, "The run stops a process there.")
     press_view(page, "outcomes")
     assert text_of(page, ".asked") == "pcml outcomes script.pcml"
-    bounds_are(page, False, "No bound: a process may make any number of syncs.")
+    bounds_are(page, False, "No bound on syncs.")
     meets(text_of(page, "#told"), "1 outcome, and that is all. Some runs go on for ever.")
     meets(text_of(page, "#answer"), "233 states seen in ", "in runs of any length.")
     # The journal of an outcome may have more syncs than the field says.
@@ -230,7 +230,7 @@ def bound_is_told(driven, address):
     meets(text_of(page, "#told"), "2 outcomes, and that is all within 2 syncs a process.")
     choose(page, "#never", "--faults")
     wait_answer(page)
-    bounds_are(page, False, "No bound: a process may make any number of syncs.")
+    bounds_are(page, False, "No bound on syncs.")
     assert not is_seen(page, "#extent")
     press_view(page, "step")
     bounds_are(page, True, "Bounds your run.")
@@ -346,6 +346,15 @@ def never_printed_is_told(driven, address):
     assert text_of(page, ".asked") == "pcml outcomes script.pcml --never observer=99", "it is of runs of any length"
     assert not is_seen(page, "#rows"), "the syncs do not count, and are seen"
     meets(text_of(page, "#answer"), "runs of any length", "42 states seen")
+    meets(page.evaluate("document.querySelector('#printed').title"), "Several stand with commas between.")
+    fill(page, "#printed", "observer=98 , observer=99")
+    page.press("Enter")
+    wait_answer(page)
+    assert text_of(page, ".asked") == "pcml outcomes script.pcml --never observer=98 --never observer=99"
+    lines = "never observer 98 states 42 all\\nprinted observer 99 states 7\\n"
+    told = page.evaluate(f"read_never('{lines}').map(told_of_never)")
+    assert told == ["observer never prints 98.", "observer prints 99 in some run."], told
+    fill(page, "#printed", "observer=99")
     fill(page, "#script", page.evaluate("playground.editor.text").replace("set_turn (turn_b)", "set_turn (turn_a)"))
     press_view(page, "outcomes")
     is_told(page, "observer prints 99 in some run.", "fault")

@@ -11,7 +11,7 @@ const KINDS = { 0: "met", 1: "open", 3: "fault" };
 const AFTER_RUN = "A run shows one outcome. Outcomes tells all, and Step lets you choose.";
 // What is told beside the number of syncs: in which view it bounds what, and where nothing does.
 const BOUNDS = {
-  any: "No bound: a process may make any number of syncs.",
+  any: "No bound on syncs.",
   within: "Longer runs are not searched.",
   run: "The run stops a process there.",
   why: "Bounds the run that is shown.",
