@@ -576,7 +576,7 @@ def links_hold_scripts(driven, address):
 
 
 def reload_keeps_script(driven, address):
-    """Its text, its syncs, and which runs are searched: of this tab before another's, and of a link before both."""
+    """Its text, its syncs, and which runs are searched: a link's first, then this tab's, then what was written last."""
     opened(driven, address).close()
     page = opened(driven, address, before=NOTE_ANSWER)
     fill(page, "#script", BESIDE)
@@ -584,7 +584,7 @@ def reload_keeps_script(driven, address):
     press_view(page, "outcomes")
     choose(page, "#extent", "within")
     other = opened(driven, address, before=NOTE_ANSWER)
-    assert other.evaluate("playground.editor.text") == BESIDE, "a new tab begins with the last script"
+    assert other.evaluate("playground.editor.text") == BESIDE, "a new tab begins with what was written last"
     choose_example(other, "swap")
     load_again(other)
     assert other.evaluate("document.querySelector('#example').value") == "swap"
@@ -597,6 +597,8 @@ def reload_keeps_script(driven, address):
     linked = opened(driven, link, before=NOTE_ANSWER)
     assert linked.evaluate("playground.held") == {"text": BESIDE, "rows": 9, "is_within": True}
     assert linked.evaluate("location.hash") != "", "a link that is there stays"
+    third = opened(driven, address, before=NOTE_ANSWER)
+    assert third.evaluate("playground.editor.text") == BESIDE, "an example is in the way of what was written"
     # Neither the syncs that are chosen then nor the script that is written are of the link any more.
     fill(linked, "#rows", "12")
     linked.press("Enter")

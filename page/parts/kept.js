@@ -1,7 +1,7 @@
 // The script in the browser's own stores, so that a reload keeps it. Where a store is refused or full, it does not.
 
 const KEPT = "puttolive";
-// That of this tab goes first, so that two tabs keep two scripts. A new tab begins with the last script of all.
+// That of this tab goes first, so that two tabs keep two scripts.
 const STORES = ["sessionStorage", "localStorage"];
 
 // What a store comes to. The browser may throw as soon as it is named.
@@ -13,9 +13,11 @@ function of_store(name, ask) {
   }
 }
 
-function keep_script(held) {
+// Keeps a script for this tab. A new tab begins with the last one that was written, so no example and no link is in
+// the way of that.
+function keep_script(held, is_written) {
   const text = JSON.stringify(held);
-  for (const name of STORES) of_store(name, (store) => store.setItem(KEPT, text));
+  for (const name of is_written ? STORES : STORES.slice(0, 1)) of_store(name, (store) => store.setItem(KEPT, text));
 }
 
 // The script that was kept, with how long its runs may be; null where none was, or where it cannot be read.

@@ -66,7 +66,7 @@ function connect_buttons(page) {
   found("choices").addEventListener("submit", (event) => event.preventDefault());
   found("choices").addEventListener("change", (event) => {
     if (event.target.id === "rows") page.fit_journal();
-    if (["rows", "extent"].includes(event.target.id)) page.keep_held();
+    if (["rows", "extent"].includes(event.target.id)) page.keep_held(false);
     page.show(page.view);
     if (event.target.id === "never") found(FIELDS[event.target.value] ?? "")?.focus();
   });
@@ -82,11 +82,11 @@ async function begin_without() {
   const held = () => ({ text: editor.text, rows: ROWS, is_within: false });
   const editor = new Editor(() => {
     leave_link();
-    keep_script(held());
+    keep_script(held(), true);
   });
   const load = ({ text }) => {
     editor.text = text;
-    keep_script(held());
+    keep_script(held(), false);
   };
   connect_link(held);
   let_try(load);

@@ -57,9 +57,9 @@ class Playground {
   }
 
   // Keeps what was changed here, which a link in the address does not hold.
-  keep_held() {
+  keep_held(is_written) {
     leave_link();
-    keep_script(this.held);
+    keep_script(this.held, is_written);
   }
 
   // Puts a script into the editor. What was made of an earlier one is no journal of it.
@@ -69,7 +69,7 @@ class Playground {
     found("example").value = "";
     this.editor.text = text;
     this.forget();
-    keep_script(this.held);
+    keep_script(this.held, false);
     this.checking.now();
   }
 
@@ -86,7 +86,7 @@ class Playground {
 
   changed() {
     this.forget();
-    this.keep_held();
+    this.keep_held(true);
     this.checking.soon();
     found("example").value = "";
     this.set_old(this.view !== "" && !PAGES.includes(this.view));
@@ -228,6 +228,7 @@ class Playground {
     return words;
   }
 
+  // Which runs are searched.
   get told_extent() {
     return this.is_within ? `within ${counted(this.rows, "sync")} a process` : "of any length";
   }
@@ -293,8 +294,10 @@ class Playground {
   // A run that a search without a bound finds is of any length. Where a process makes more syncs in it than it may, it
   // may then make these, and the one at which it waits.
   make_room(commits) {
-    found("rows").value = Math.min(MOST_ROWS, Math.max(this.rows, syncs_of(commits) + 1));
-    this.keep_held();
+    const rows = Math.min(MOST_ROWS, syncs_of(commits) + 1);
+    if (rows <= this.rows) return;
+    found("rows").value = rows;
+    this.keep_held(false);
   }
 
   // Keeps what Why, Chart and Step show until another run is made, an outcome is shown, or a step is taken.
