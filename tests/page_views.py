@@ -729,6 +729,8 @@ def language_can_be_tried(driven, address):
     page = opened(driven, address)
     press_view(page, "language")
     meets(text_of(page, "#language"), "The language", "may be taken")
+    page.size(1000, 800)
+    wait_until(page, "document.querySelector('#language .has-right > .wide table')", "that a table is wider")
     if page.evaluate("Boolean(document.querySelector('#language .try button'))"):
         page.evaluate("document.querySelector('#language .try button').click()")
         wait_answer(page)

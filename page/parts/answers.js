@@ -88,7 +88,7 @@ function drawn_ends(stands) {
 function drawn_table(label, { head = [], body, id = "" }) {
   const heads = head.length ? [made("thead", {}, made("tr", {}, ...head))] : [];
   const table = made("table", id ? { id } : {}, ...heads, body);
-  return framed(made("div", { class: "wide", role: "group" }, table), label);
+  return framed(made("div", { class: "wide" }, table), label);
 }
 
 // A heading with buttons behind it.

@@ -33,6 +33,7 @@ function framed(scroller, label) {
     frame.classList.toggle("has-right", scroller.scrollWidth - scroller.clientWidth - left > MARGIN);
   };
   scroller.setAttribute("aria-label", label);
+  if (!scroller.hasAttribute("role")) scroller.setAttribute("role", "group");
   scroller.addEventListener("scroll", look, { passive: true });
   const watching = new ResizeObserver(look);
   for (const it of [scroller, ...scroller.children]) watching.observe(it);

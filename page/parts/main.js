@@ -21,6 +21,15 @@ function let_try(load) {
   }
 }
 
+// Puts the tables of the language's page into frames, as those of the answers are.
+function frame_tables() {
+  for (const wide of document.querySelectorAll(".prose .wide")) {
+    const place = made("div");
+    wide.replaceWith(place);
+    place.replaceWith(framed(wide, "Table"));
+  }
+}
+
 async function load_fragment(load) {
   try {
     const held = await held_by(location.hash);
@@ -99,6 +108,7 @@ async function begin_without() {
 }
 
 async function begin() {
+  frame_tables();
   if (!has_wide_memory()) return begin_without();
   const page = new Playground(compiled_module());
   const load = (held) => {
