@@ -78,4 +78,4 @@ RefusesChart script journal rows only number refusals.Memory = AreDrawable rows 
 RefusesChart script journal rows only number (refusals.Script fault) = AreDrawable rows number × Tells script fault
 RefusesChart script journal rows only number (refusals.BadLine line) = AreDrawable rows number × (s : Script) × Spells script s × IsFirstBadLine s journal line
 RefusesChart script journal rows only number (refusals.Unnamed name) = AreDrawable rows number × (s : Script) × Spells script s × MisnamesAny s (given only) (names.Unnamed name)
-RefusesChart script journal rows only number refusals.Limit = ⊥
+RefusesChart script journal rows only number refusal = ⊥

@@ -61,9 +61,9 @@ RefusesFaults script limit refusal = ⊥
 
 -- last a name that no process of the script has
 abbrev pub RefusesLeft : List ℕ → ℕ → List ℕ → Refusal → Type 0
-RefusesLeft script limit names refusals.NoText = IsLimit limit × (¬ IsUtf8 names)
-RefusesLeft script limit names (refusals.Unnamed name) = IsLimit limit × (s : Script) × Spells script s × Misnames s names (names.Unnamed name)
-RefusesLeft script limit names refusal = RefusesFaults script limit refusal
+RefusesLeft script limit text refusals.NoText = IsLimit limit × (¬ IsUtf8 text)
+RefusesLeft script limit text (refusals.Unnamed name) = IsLimit limit × (s : Script) × Spells script s × Misnames s text (names.Unnamed name)
+RefusesLeft script limit text refusal = RefusesFaults script limit refusal
 
 -- or the text that names no process and value of it
 abbrev pub RefusesPrint : List ℕ → ℕ → List ℕ → Refusal → Type 0

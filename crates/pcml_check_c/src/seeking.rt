@@ -65,9 +65,9 @@ pub(crate) fn left_sought(
     ensures refused { IfErr result (RefusesLeft script.now limit names.now) }
 {
     let most = limit_of(limit)?;
-    let names = text_in(names)?;
+    let text = text_in(names)?;
     let script = parse(alloc, script)?;
-    let marks = named_processes(alloc, &script, names)?;
+    let marks = named_processes(alloc, &script, text)?;
     let sought = left_text(alloc, &script, most, &marks, &mut Unwatched)?;
     Ok(told_of(sought))
 }
