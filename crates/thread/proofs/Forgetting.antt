@@ -19,11 +19,11 @@ use Rattle.thread.proofs.Taking as taking
 abbrev having_of : Having → past.Having
 having_of h = record { message = h.message; state = unlined h.state }
 
-abbrev formed_of : Formed → past.Formed
+abbrev pub formed_of : Formed → past.Formed
 formed_of f = record { tree = f.tree; wraps = f.wraps; state = unlined f.state }
 
 -- both go on with the same, or both stop in the same way
-abbrev Told : {A B : Type 0} → (A → B) → Outcome A → past.Outcome B → Type 0
+abbrev pub Told : {A B : Type 0} → (A → B) → Outcome A → past.Outcome B → Type 0
 Told view (Goes a) (past.Goes b) = view a ≡ b
 Told view (Offers tree at) (past.Offers other said) = (tree ≡ other) × (at.said ≡ said)
 Told view (Finishes at) (past.Finishes said left) = (at.said ≡ said) × (at.left ≡ left)
@@ -76,7 +76,7 @@ committed_told names f None m s = tt
 committed_told names f (Some numbers) m s =
     bind_told having_of unlined (wrapped f.wraps numbers m s) (past.wrapped f.wraps numbers m (unlined s)) _ _ (wrapped_told f.wraps numbers m s) (λ h. received_told names h.message h.state)
 
-synced_with_told : (names : Option (List ℕ)) (f : Formed) (left : List Chosen) → Told unlined (synced_with names f left) (past.synced_with names (formed_of f) left)
+pub synced_with_told : (names : Option (List ℕ)) (f : Formed) (left : List Chosen) → Told unlined (synced_with names f left) (past.synced_with names (formed_of f) left)
 synced_with_told names f [] = (refl, refl)
 synced_with_told names f (c ∷ left) = committed_told names f (wraps_at f.tree c.0) c.1 (record f.state { left = left })
 
@@ -87,7 +87,7 @@ times_told zero one other same s = refl
 times_told (suc n) one other same s = bind_told unlined unlined (one s) (other (unlined s)) (times n one) (past.times n other) (same s) (times_told n one other same)
 
 -- a sync of what is resolved, and then the rest
-turn_told : (names : Option (List ℕ)) (one : State → Outcome Formed) (other : past.State → past.Outcome past.Formed) (rest : State → Outcome State) (more : past.State → past.Outcome past.State) → ((s : State) → Told formed_of (one s) (other (unlined s))) → ((s : State) → Told unlined (rest s) (more (unlined s)))
+pub turn_told : (names : Option (List ℕ)) (one : State → Outcome Formed) (other : past.State → past.Outcome past.Formed) (rest : State → Outcome State) (more : past.State → past.Outcome past.State) → ((s : State) → Told formed_of (one s) (other (unlined s))) → ((s : State) → Told unlined (rest s) (more (unlined s)))
     → (s : State) → Told unlined (one s >>= synced names >>= rest) (other (unlined s) >>> past.synced names >>> more)
 turn_told names one other rest more same behind s =
     bind_told unlined unlined (one s >>= synced names) (other (unlined s) >>> past.synced names) rest more
@@ -98,7 +98,7 @@ turn_told names one other rest more same behind s =
 base_told : (wraps : List Wrapping) (s : State) (r : Result Base Fault) → Told formed_of (given s r >>= formed wraps s) (past.given (unlined s) r >>> past.formed wraps (unlined s))
 base_told wraps s r = given_told formed_of s r (formed wraps s) (past.formed wraps (unlined s)) (λ base. refl)
 
-with_nack_told : (name : ℕ) (s : State) → Told unlined (with_nack name s) (past.with_nack name (unlined s))
+pub with_nack_told : (name : ℕ) (s : State) → Told unlined (with_nack name s) (past.with_nack name (unlined s))
 with_nack_told name s = if_told (nat_le 64 s.nacks) _ _ _ _ (refl, refl, refl) refl
 
 mutual
@@ -121,7 +121,7 @@ mutual
   stmt_told line Ends s = (refl, refl)
   stmt_told line (Spawns process) s = refl
 
-  event_told : (line : ℕ) (e : Event) (wraps : List Wrapping) (s : State) → Told formed_of (resolve line e wraps s) (past.resolve (plain_event e) wraps (unlined s))
+  pub event_told : (line : ℕ) (e : Event) (wraps : List Wrapping) (s : State) → Told formed_of (resolve line e wraps s) (past.resolve (plain_event e) wraps (unlined s))
   event_told line (Sends channel list) wraps s = base_told wraps s (send_value s.store channel list)
   event_told line (Receives channel) wraps s = base_told wraps s (recv_value s.store channel)
   event_told line (IsReady list) wraps s = base_told wraps s (always_value s.store list)

@@ -3,7 +3,7 @@
 use Rattle.std.proofs.Common.{◌≡◌, ℕ, zero, suc, ◌+◌, ◌-◌, ◌<◌, ◌==◌, List, [], ◌∷◌, ◌++◌, Option, Some, None, Result, Ok, Err, Bool, true, false, length, slice_get, refl, sym, ◌∙◌, subst, arith, nat_le, nat_lt}
 use Rattle.std.proofs.lemmas.Bool.Decides.{nat_tests}
 use Rattle.std.proofs.lemmas.List.{length-append, length-map}
-use Rattle.std.proofs.lemmas.List.Elements.{All-head, All-tail, All-set, All-replicate}
+use Rattle.std.proofs.lemmas.List.Elements.{All-nil, All-cons, All-append, All-head, All-map, All-tail, All-set, All-replicate}
 use Rattle.std.specs.Prelude.{⊤, All, if◌then◌else◌}
 use Rattle.std.specs.List.{list_any}
 use Rattle.event.specs.Tree.{Tree, Single, Nothing, Or, Wrap, Scope, bases_from, base_count, scope_count, with_scope, with_wrap, wraps_at}
@@ -91,7 +91,17 @@ TreeOn B S (Scope nack event) = S nack × TreeOn B S event
 abbrev pub TreeOf : (Atom → Type 0) → (ℕ → Type 0) → (ℕ → Type 0) → Tree → Type 0
 TreeOf P J S tree = TreeOn (BaseOf P J) S tree
 
-abbrev IfFine : {A : Type 0} → Result A Fault → (A → Type 0) → Type 0
+module _ (B : Base → Type 0) (S : ℕ → Type 0) where
+  -- those of a tree of such base events are such
+  pub bases_are : (n : ℕ) (t : Tree) → TreeOn B S t → All (λ b. B b.base) (bases_from n t)
+  bases_are n (Single base) h = All-cons (λ b. B b.base) _ [] h (All-nil (λ b. B b.base))
+  bases_are n Nothing h = All-nil (λ b. B b.base)
+  bases_are n (Or first second) h =
+      All-append (λ b. B b.base) (bases_from n first) _ (bases_are n first h.0) (bases_are (n + scope_count first) second h.1)
+  bases_are n (Wrap wrap event) h = All-map (λ b. B b.base) (with_wrap wrap) (bases_from n event) (bases_are n event h)
+  bases_are n (Scope nack event) h = All-map (λ b. B b.base) (with_scope n) (bases_from (n + 1) event) (bases_are (n + 1) event h.1)
+
+abbrev pub IfFine : {A : Type 0} → Result A Fault → (A → Type 0) → Type 0
 IfFine (Ok a) P = P a
 IfFine (Err fault) P = ⊤
 
@@ -103,7 +113,7 @@ anything : {A : Type 0} (r : Result A Fault) → IfFine r (λ _. ⊤)
 anything (Ok a) = tt
 anything (Err fault) = tt
 
-each_more : {A : Type 0} (P : A → Type 0) (xs : List A) (a : A) → EachOf P xs → P a → EachOf P (xs ++ a ∷ [])
+pub each_more : {A : Type 0} (P : A → Type 0) (xs : List A) (a : A) → EachOf P xs → P a → EachOf P (xs ++ a ∷ [])
 each_more P [] a h k = (k, tt)
 each_more P (x ∷ xs) a h k = (h.0, each_more P xs a h.1 k)
 
@@ -261,7 +271,7 @@ module _ (r : Rule) where
 
   -- VALUES
 
-  abbrev StoreIs : Store → Type 0
+  abbrev pub StoreIs : Store → Type 0
   StoreIs store = All (PlaceOf r.Good) store
 
   name_fine : (store : Store) (name : Name) → StoreIs store → NameOf name → IfFine (name_value store name) r.Good
@@ -375,19 +385,19 @@ module _ (r : Rule) where
   abbrev pub BaseIs : Base → Type 0
   BaseIs base = BaseOn r.Into r.From r.Good r.Joined base
 
-  send_fine : (store : Store) (channel : Name) (es : List Expr) → StoreIs store → IntoOf channel → ListOf es → IfFine (send_value store channel es) BaseIs
+  pub send_fine : (store : Store) (channel : Name) (es : List Expr) → StoreIs store → IntoOf channel → ListOf es → IfFine (send_value store channel es) BaseIs
   send_fine store channel es h w v =
       then_fine (channel_value store channel) _ r.Into BaseIs (into_fine store channel h w) (λ c k.
       then_fine (list_value store es) _ (MessageOf r.Good) BaseIs (list_fine store h es v) (λ m l. (k, l)))
 
-  recv_fine : (store : Store) (channel : Name) → StoreIs store → FromOf channel → IfFine (recv_value store channel) BaseIs
+  pub recv_fine : (store : Store) (channel : Name) → StoreIs store → FromOf channel → IfFine (recv_value store channel) BaseIs
   recv_fine store channel h w =
       then_fine (channel_value store channel) _ r.From BaseIs (from_fine store channel h w) (λ c k. k)
 
-  always_fine : (store : Store) (es : List Expr) → StoreIs store → ListOf es → IfFine (always_value store es) BaseIs
+  pub always_fine : (store : Store) (es : List Expr) → StoreIs store → ListOf es → IfFine (always_value store es) BaseIs
   always_fine store es h w = then_fine (list_value store es) _ (MessageOf r.Good) BaseIs (list_fine store h es w) (λ m l. l)
 
-  cancelled_fine : (store : Store) (name : Name) → StoreIs store → NameOf name → IfFine (cancelled_value store name) BaseIs
+  pub cancelled_fine : (store : Store) (name : Name) → StoreIs store → NameOf name → IfFine (cancelled_value store name) BaseIs
   cancelled_fine store name h w =
       then_fine (nack_value store name) _ (λ n. r.Good (Nack n)) BaseIs
       (then_fine (name_value store name) nack_in r.Good (λ n. r.Good (Nack n)) (name_fine store name h w) (λ a k. nack_fine a k))
@@ -504,7 +514,7 @@ module _ (r : Rule) where
       bind_keeps (wrapped f.wraps numbers m s) _ HavingIs StateIs (wrapped_keeps f.wraps numbers m s v k h) (λ g l.
       received_keeps names g.message g.state l.message l.state)
 
-  synced_with_keeps : (n : ℕ) (names : Option (List ℕ)) (f : Formed) (left : List Chosen) → r.Small n → ResultsOf r.Good left → FormedIs n f → Keeps (synced_with names f left) StateIs
+  pub synced_with_keeps : (n : ℕ) (names : Option (List ℕ)) (f : Formed) (left : List Chosen) → r.Small n → ResultsOf r.Good left → FormedIs n f → Keeps (synced_with names f left) StateIs
   synced_with_keeps n names f [] small k h = record { parts = h.tree; small = subst r.Small (sym h.count) small; said = h.state.said }
   synced_with_keeps n names f (c ∷ left) small k h =
       let s : State = record f.state { left = left } in
@@ -519,7 +529,7 @@ module _ (r : Rule) where
   times_keeps (suc n) turn keeps s h =
       bind_keeps (turn s) (times n turn) StateIs StateIs (keeps s h) (λ t k. times_keeps n turn keeps t k)
 
-  turn_keeps : (n : ℕ) (names : Option (List ℕ)) (event : State → Outcome Formed) (rest : State → Outcome State) → r.Small n → ((s : State) → StateIs s → Keeps (event s) (FormedIs n)) → ((s : State) → StateIs s → Keeps (rest s) StateIs) → (s : State) → StateIs s → Keeps (event s >>= synced names >>= rest) StateIs
+  pub turn_keeps : (n : ℕ) (names : Option (List ℕ)) (event : State → Outcome Formed) (rest : State → Outcome State) → r.Small n → ((s : State) → StateIs s → Keeps (event s) (FormedIs n)) → ((s : State) → StateIs s → Keeps (rest s) StateIs) → (s : State) → StateIs s → Keeps (event s >>= synced names >>= rest) StateIs
   turn_keeps n names event rest small forms keeps s h =
       bind_keeps (event s >>= synced names) rest StateIs StateIs
       (bind_keeps (event s) (synced names) (FormedIs n) StateIs (forms s h) (λ f k. synced_keeps n names f small k))
@@ -528,7 +538,7 @@ module _ (r : Rule) where
   with_variable_in : (name : ℕ) (a : Atom) (s : State) → r.Good a → StateIs s → StateIs (with_variable name a s)
   with_variable_in name a s k h = with_store s (with_atom name a s.store) h (with_atom_fine name a s.store k h.store)
 
-  with_nack_keeps : (name : ℕ) (s : State) → StateIs s → Keeps (with_nack name s) (λ t. StateIs t × r.Scoped s.nacks)
+  pub with_nack_keeps : (name : ℕ) (s : State) → StateIs s → Keeps (with_nack name s) (λ t. StateIs t × r.Scoped s.nacks)
   with_nack_keeps name s h =
       if_keeps (nat_le 64 s.nacks) _ _ (λ t. StateIs t × r.Scoped s.nacks) (λ full. h.said) (λ few.
       let below : s.nacks < 64 = grind (arith, nat_tests, few) in

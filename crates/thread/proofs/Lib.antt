@@ -30,3 +30,5 @@ pub mod Alike
 pub mod Taken
 pub mod Same
 pub mod Rising
+pub mod Marking
+pub mod Naming

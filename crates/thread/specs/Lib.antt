@@ -10,6 +10,7 @@ pub mod Passages
 pub mod Fitting
 pub mod Reaches
 pub mod Machines
+pub mod Naming
 pub mod Places
 pub mod Ranges
 pub mod Printing

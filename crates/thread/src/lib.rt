@@ -14,6 +14,7 @@ mod branch;
 mod commit;
 mod counted;
 mod hashing;
+mod holding;
 pub mod log;
 mod machine;
 mod memory;
