@@ -1,5 +1,5 @@
 -- Which processes and which values texts name.
-use Rattle.std.specs.Prelude.{◌≡◌, ◌<◌, ℕ, List, [], ◌∷◌, ◌++◌, Contains, Option, None, Some, codes, length, map}
+use Rattle.std.specs.Prelude.{◌≡◌, ◌<◌, ℕ, List, [], ◌∷◌, ◌++◌, Option, None, Some, codes, length, map, slice_get, take}
 use Rattle.std.specs.List.{AllByRecursion}
 use Rattle.std.specs.String.{string_bytes}
 use Rattle.script.specs.Sources.{Script}
@@ -34,10 +34,18 @@ NamesNone s text = (print : Print) → HasAtom (names_of s) print.value → Name
 abbrev pub NamePrints : Script → List (List ℕ) → List Print → Type 0
 NamePrints s texts prints = AllByRecursion (IsProcess s) prints × (map (print_text (named s)) prints ≡ texts)
 
--- what a fault says: one of the texts names none
+-- it is the first of the texts that names none
+pub record NamesNoneFirst (s : Script) (texts : List (List ℕ)) (its : List ℕ) : Type 0 where
+  pub place : ℕ
+  pub there : slice_get texts place ≡ Some its
+  pub before : List Print
+  pub named : NamePrints s (take place texts) before
+  pub none : NamesNone s its
+
+-- what a fault says
 abbrev pub MisnamesPrints : Script → List (List ℕ) → PrintsFault → Type 0
 MisnamesPrints s texts Memory = Unit {0}
-MisnamesPrints s texts (Unprinted its) = Contains texts (string_bytes its) × NamesNone s (string_bytes its)
+MisnamesPrints s texts (Unprinted its) = NamesNoneFirst s texts (string_bytes its)
 
 -- AS A JOURNAL HAS IT
 
