@@ -155,6 +155,157 @@ def readers_writers(readers, writers):
     return Model(f"{readers} readers, {writers} writers", script, needed, promela)
 
 
+def registers(starts):
+    """Shared variables: each is a process that offers to be read and to be written. Their channels, and both texts."""
+    names = [f"{word}_{name}" for name in starts for word in ("get", "set")]
+    script = "".join(
+        f"process {name} {{ let x = {start}; forever {{ x <- sync choose [wrap send get_{name} (x) to (x), recv set_{name}]; }} }}\n"
+        for name, start in starts.items()
+    )
+    promela = "".join(
+        f"active proctype {name}() {{ byte x = {start}; end: do :: get_{name}!x :: set_{name}?x od }}\n"
+        for name, start in starts.items()
+    )
+    return names, script, promela
+
+
+def user_of_three(me, others):
+    """One who goes through both stages: past each other one who is behind, or where another came to the stage later."""
+    def passing(place, other):
+        return (
+            f"if at = {place} {{ seen <- sync recv get_flag{other}; if seen < stage {{ let at = {place + 1}; }} else {{ "
+            "if stage = 0 { last <- sync recv get_last0; } else { last <- sync recv get_last1; } "
+            f"if last = {me} {{ }} else {{ let at = {place + 1}; }} }} }} else {{\n"
+        )
+
+    script = (
+        f"process user{me} {{ let stage = 0; let at = 0; forever {{ sync always ();\nif at = 0 {{ sync send set_flag{me} (stage); "
+        f"if stage = 0 {{ sync send set_last0 ({me}); }} else {{ sync send set_last1 ({me}); }} let at = 1; }} else {{\n"
+        + passing(1, others[0]) + passing(2, others[1])
+        + "if stage = 0 { let stage = 1; let at = 0; } else { sync send enter (); sync send leave (); "
+        f"sync send set_flag{me} (0); let stage = 0; let at = 0; }} }} }} }} }} }}\n"
+    )
+
+    def passing_in_promela(place, other):
+        return (
+            f":: at == {place} -> get_flag{other}?seen; if :: seen < stage -> at = {place + 1} :: else -> "
+            f"if :: stage == 0 -> get_last0?last :: else -> get_last1?last fi; if :: last == {me} :: else -> at = {place + 1} fi; "
+            "last = 0 fi; seen = 0\n"
+        )
+
+    promela = (
+        f"active proctype user{me}() {{ byte stage, at, seen, last; do\n:: at == 0 -> set_flag{me}!stage; "
+        f"if :: stage == 0 -> set_last0!{me} :: else -> set_last1!{me} fi; at = 1\n"
+        + passing_in_promela(1, others[0]) + passing_in_promela(2, others[1])
+        + ":: at == 3 && stage == 0 -> stage = 1; at = 0\n"
+        f":: at == 3 && stage == 1 -> enter!0; leave!0; set_flag{me}!0; stage = 0; at = 0 od }}\n"
+    )
+    return script, promela
+
+
+def peterson_of_three():
+    """Peterson's lock of three users, again and again; an observer counts who is inside."""
+    names, shared, promela = registers({"last0": 0, "last1": 0, "flag0": 0, "flag1": 0, "flag2": 0})
+    users = [user_of_three(me, [other for other in range(3) if other != me]) for me in range(3)]
+    script = channels([*names, "enter", "leave"]) + shared + (
+        "process observer { let inside = 0; forever { inside <- sync choose [wrap recv enter to (inside + 1), "
+        "wrap recv leave to (inside - 1)]; if 1 < inside { print 99; end; } else { } } }\n"
+    ) + "".join(user[0] for user in users)
+    promela = promela_channels(names, "byte") + promela_channels(["enter", "leave"]) + promela + (
+        "active proctype observer() { byte inside; end: do :: enter?_ -> inside++; assert(inside < 2) :: leave?_ -> inside-- od }\n"
+    ) + "".join(user[1] for user in users)
+    return Model("Peterson, 3 users", script, [f"user{me}" for me in range(3)], promela)
+
+
+def go_back():
+    """Three items by numbers modulo three, at most two on their way, over lines that may lose; then the sender ends."""
+    names = ["data", "data_out", "ack", "ack_out", "off", "tick"]
+    script = channels(names) + (
+        "process sender { let base = 0; let number = 0; let next = 0; let sent = 0; forever {\n"
+        "what, a <- sync guard { let out = off; let late = off; if next < 3 { if next < base + 2 { let out = data; } else { } } else { } "
+        "if base < next { let late = tick; } else { } }\nchoose [wrap send out (sent, next) to (0, 0), "
+        "wrap recv ack_out as a to (1, a), wrap recv late to (2, 0)];\n"
+        "if what = 0 { let next = next + 1; let sent = sent + 1; if sent = 3 { let sent = 0; } else { } } else { }\n"
+        "if what = 2 { let next = base; let sent = number; } else { }\n"
+        "if what = 1 { let s = number + 1; if s = 3 { let s = 0; } else { } if a = s { let n = 1; } else { let s = s + 1; "
+        "if s = 3 { let s = 0; } else { } if a = s { let n = 2; } else { let n = 0; } }\n"
+        "if n = 0 { } else { if base + n < next + 1 { let base = base + n; let number = a; } else { } } "
+        "if base = 3 { end; } else { } } else { } } }\n"
+        "process clock { forever { sync send tick (); } }\n"
+        "process data_line { forever { s, x <- sync recv data; sync choose [send data_out (s, x), always ()]; } }\n"
+        "process ack_line { forever { a <- sync recv ack; sync choose [send ack_out (a), always ()]; } }\n"
+        "process receiver { let want = 0; let item = 0; forever { s, x <- sync recv data_out; if s = want { if x = item { } "
+        "else { print 99; end; } let item = item + 1; let want = want + 1; if want = 3 { let want = 0; } else { } } else { } "
+        "sync send ack (want); } }\n"
+    )
+    promela = promela_channels(["data", "data_out", "off"], "byte, byte") + promela_channels(["ack", "ack_out", "tick", "idle"], "byte") + (
+        "active proctype sender() { byte base, number, next, sent, a, n; chan out, late; do :: atomic { out = off; late = idle; "
+        "if :: next < 3 && next < base + 2 -> out = data :: else fi; if :: base < next -> late = tick :: else fi }\n"
+        "if :: out!sent,next -> atomic { next++; sent = (sent + 1) % 3 } :: late?_ -> atomic { next = base; sent = number }\n"
+        ":: ack_out?a -> atomic { if :: a == (number + 1) % 3 -> n = 1 :: a == (number + 2) % 3 -> n = 2 :: else -> n = 0 fi; "
+        "if :: n && base + n < next + 1 -> base = base + n; number = a :: else fi; a = 0; n = 0; if :: base == 3 -> break :: else fi } fi od }\n"
+        "active proctype clock() { end: do :: tick!0 od }\n"
+        "active proctype data_line() { byte s, x; end: do :: data?s,x -> if :: data_out!s,x :: skip fi; s = 0; x = 0 od }\n"
+        "active proctype ack_line() { byte a; end: do :: ack?a -> if :: ack_out!a :: skip fi; a = 0 od }\n"
+        "active proctype receiver() { byte want, item, s, x; end: do :: data_out?s,x -> if :: s == want -> assert(x == item); "
+        "item++; want = (want + 1) % 3 :: else fi; s = 0; x = 0; ack!want od }\n"
+    )
+    return Model("go-back-N, 3 items", script, ["sender"], promela)
+
+
+def raft_node(me, others):
+    """Asks for votes once, when the clock says so, and votes for the first who asks in a term, by the channel that came."""
+    asks = "".join(f" sync send req{other} (term, ack{me});" for other in others)
+    script = (
+        f"process node{me} {{ let term = 0; let role = 0; let voted = none; let votes = 0; forever {{\n"
+        "what, t, from <- sync guard { let late = off; if term < 1 { let late = tick; } else { } } "
+        f"choose [wrap recv req_out{me} as t, from to (0, t, from), wrap recv ack_out{me} as t to (1, t, none), "
+        "wrap recv late to (2, 0, none)];\n"
+        "if what = 0 { if term < t { let term = t; let role = 0; let voted = none; let votes = 0; } else { } "
+        "if t = term { let ok = 0; if voted = none { let ok = 1; } else { } if voted = from { let ok = 1; } else { } "
+        "if ok = 1 { let voted = from; sync send from (t); } else { } } else { } } else {\n"
+        "if what = 1 { if t = term { if role = 1 { let votes = votes + 1; if votes = 2 { let role = 2; "
+        "sync send elected (term); } else { } } else { } } else { } } else {\n"
+        f"let term = term + 1; let role = 1; let voted = ack{me}; let votes = 1;{asks} }} }} }} }}\n"
+    )
+    asks = "".join(f" req{other}!1,ack{me};" for other in others)
+    promela = (
+        f"active proctype node{me}() {{ byte term, votes, t; bit asks; chan voted, from, late; atomic {{ voted = none; from = none; "
+        "late = tick };\ndo\n"
+        f":: atomic {{ req_out{me}?t,from -> if :: term < t -> term = t; asks = 0; voted = none; votes = 0; late = idle :: else fi; "
+        "if :: t == term && (voted == none || voted == from) -> voted = from :: else -> from = none fi; t = 0 }; "
+        "if :: from != none -> from!term; from = none :: else fi\n"
+        f":: atomic {{ ack_out{me}?t -> if :: t == term && asks -> votes++ :: else fi; t = 0 }}; "
+        "if :: asks && votes == 2 -> asks = 0; elected!term :: else fi\n"
+        f":: atomic {{ late?_ -> term = 1; asks = 1; voted = ack{me}; votes = 1; late = idle }};{asks} od }}\n"
+    )
+    return script, promela
+
+
+def raft():
+    """Three nodes elect a leader in one term, over lines of one message that may lose. They wait when it is over."""
+    script = channels(["none", "off", "tick", "elected", *(f"{word}{i}" for i in range(3) for word in ("req", "req_out", "ack", "ack_out"))])
+    promela = promela_channels(["none", "tick", "idle", "elected"], "byte") + "".join(
+        promela_channels([f"req{i}", f"req_out{i}"], "byte, chan") + promela_channels([f"ack{i}", f"ack_out{i}"], "byte") for i in range(3)
+    )
+    nodes = [raft_node(me, [(me + 1) % 3, (me + 2) % 3]) for me in range(3)]
+    script += "".join(
+        f"process req_line{i} {{ forever {{ t, from <- sync recv req{i}; sync choose [send req_out{i} (t, from), always ()]; }} }}\n"
+        f"process ack_line{i} {{ forever {{ t <- sync recv ack{i}; sync choose [send ack_out{i} (t), always ()]; }} }}\n"
+        for i in range(3)
+    ) + "process clock { forever { sync send tick (); } }\n" + "".join(node[0] for node in nodes) + (
+        "process observer { let one = 0; forever { sync recv elected; let one = one + 1; if 1 < one { print 99; end; } else { } } }\n"
+    )
+    promela += "".join(
+        f"active proctype req_line{i}() {{ byte t; chan from; end: do :: req{i}?t,from -> if :: req_out{i}!t,from :: skip fi; t = 0; from = none od }}\n"
+        f"active proctype ack_line{i}() {{ byte t; end: do :: ack{i}?t -> if :: ack_out{i}!t :: skip fi; t = 0 od }}\n"
+        for i in range(3)
+    ) + "active proctype clock() { end: do :: tick!0 od }\n" + "".join(node[1] for node in nodes) + (
+        "active proctype observer() { byte one; end: do :: elected?_ -> one++; assert(one < 2) od }\n"
+    )
+    return Model("Raft, one term", script, [f"node{me}" for me in range(3)], promela)
+
+
 def election(nodes):
     """A ring in which the greatest number comes round, and then a 0 that ends all. A line stands behind each node."""
     ring = [(i, nodes - i, (i + 1) % nodes) for i in range(nodes)]
@@ -204,6 +355,9 @@ ALL = [
     *map(philosophers, (5, 7, 9)),
     *map(alternating_bit, (False, True)),
     *map(peterson, (False, True)),
+    peterson_of_three(),
+    go_back(),
+    raft(),
     two_phase(2, leave=True),
     two_phase(8, leave=False),
     readers_writers(8, 2),
