@@ -1,14 +1,14 @@
-//! Finds the archive: in the folder that PCML_LIBS names, and else in lib/out, where `lib/build` puts it.
+//! Finds the archive: in the folder that PCML_LIB names, and else in lib/out, where `lib/build` puts it.
 use std::path::PathBuf;
 
 fn main() {
-    println!("cargo:rerun-if-env-changed=PCML_LIBS");
-    let folder = std::env::var_os("PCML_LIBS").map_or_else(
+    println!("cargo:rerun-if-env-changed=PCML_LIB");
+    let folder = std::env::var_os("PCML_LIB").map_or_else(
         || PathBuf::from(std::env::var_os("CARGO_MANIFEST_DIR").expect("cargo names its folder")).join("../../out"),
         PathBuf::from,
     );
     let archive = folder.join("libpcml_cells.a");
-    assert!(archive.is_file(), "{} is not there: make -C lib/cells makes it", archive.display());
+    assert!(archive.is_file(), "{} is not there: lib/build makes it, or PCML_LIB names its folder", archive.display());
     println!("cargo:rerun-if-changed={}", archive.display());
     println!("cargo:rustc-link-search=native={}", folder.display());
     println!("cargo:rustc-link-lib=static=pcml_cells");
