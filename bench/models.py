@@ -171,49 +171,47 @@ def registers(starts):
 
 def user_of_three(me, others):
     """One who goes through both stages: past each other one who is behind, or where another came to the stage later."""
-    def passing(place, other):
-        return (
-            f"if at = {place} {{ seen <- sync recv get_flag{other}; if seen < stage {{ let at = {place + 1}; }} else {{ "
-            "if stage = 0 { last <- sync recv get_last0; } else { last <- sync recv get_last1; } "
-            f"if last = {me} {{ }} else {{ let at = {place + 1}; }} }} }} else {{\n"
-        )
-
-    script = (
+    passing = "".join(
+        f"if at = {place} {{ seen <- sync recv get_flag{other}; if seen < stage {{ let at = {place + 1}; }} else {{ "
+        "if stage = 0 { last <- sync recv get_last0; } else { last <- sync recv get_last1; } "
+        f"if last = {me} {{ }} else {{ let at = {place + 1}; }} }} }} else {{\n"
+        for place, other in enumerate(others, 1)
+    )
+    return (
         f"process user{me} {{ let stage = 0; let at = 0; forever {{ sync always ();\nif at = 0 {{ sync send set_flag{me} (stage); "
-        f"if stage = 0 {{ sync send set_last0 ({me}); }} else {{ sync send set_last1 ({me}); }} let at = 1; }} else {{\n"
-        + passing(1, others[0]) + passing(2, others[1])
-        + "if stage = 0 { let stage = 1; let at = 0; } else { sync send enter (); sync send leave (); "
+        f"if stage = 0 {{ sync send set_last0 ({me}); }} else {{ sync send set_last1 ({me}); }} let at = 1; }} else {{\n{passing}"
+        "if stage = 0 { let stage = 1; let at = 0; } else { sync send enter (); sync send leave (); "
         f"sync send set_flag{me} (0); let stage = 0; let at = 0; }} }} }} }} }} }}\n"
     )
 
-    def passing_in_promela(place, other):
-        return (
-            f":: at == {place} -> get_flag{other}?seen; if :: seen < stage -> at = {place + 1} :: else -> "
-            f"if :: stage == 0 -> get_last0?last :: else -> get_last1?last fi; if :: last == {me} :: else -> at = {place + 1} fi; "
-            "last = 0 fi; seen = 0\n"
-        )
 
-    promela = (
+def user_of_three_in_promela(me, others):
+    """The same; what was read is 0 again behind its test."""
+    passing = "".join(
+        f":: at == {place} -> get_flag{other}?seen; if :: seen < stage -> at = {place + 1} :: else -> "
+        f"if :: stage == 0 -> get_last0?last :: else -> get_last1?last fi; if :: last == {me} :: else -> at = {place + 1} fi; "
+        "last = 0 fi; seen = 0\n"
+        for place, other in enumerate(others, 1)
+    )
+    return (
         f"active proctype user{me}() {{ byte stage, at, seen, last; do\n:: at == 0 -> set_flag{me}!stage; "
-        f"if :: stage == 0 -> set_last0!{me} :: else -> set_last1!{me} fi; at = 1\n"
-        + passing_in_promela(1, others[0]) + passing_in_promela(2, others[1])
-        + ":: at == 3 && stage == 0 -> stage = 1; at = 0\n"
+        f"if :: stage == 0 -> set_last0!{me} :: else -> set_last1!{me} fi; at = 1\n{passing}"
+        ":: at == 3 && stage == 0 -> stage = 1; at = 0\n"
         f":: at == 3 && stage == 1 -> enter!0; leave!0; set_flag{me}!0; stage = 0; at = 0 od }}\n"
     )
-    return script, promela
 
 
 def peterson_of_three():
     """Peterson's lock of three users, again and again; an observer counts who is inside."""
     names, shared, promela = registers({"last0": 0, "last1": 0, "flag0": 0, "flag1": 0, "flag2": 0})
-    users = [user_of_three(me, [other for other in range(3) if other != me]) for me in range(3)]
+    users = [(me, [other for other in range(3) if other != me]) for me in range(3)]
     script = channels([*names, "enter", "leave"]) + shared + (
         "process observer { let inside = 0; forever { inside <- sync choose [wrap recv enter to (inside + 1), "
         "wrap recv leave to (inside - 1)]; if 1 < inside { print 99; end; } else { } } }\n"
-    ) + "".join(user[0] for user in users)
+    ) + "".join(user_of_three(*user) for user in users)
     promela = promela_channels(names, "byte") + promela_channels(["enter", "leave"]) + promela + (
         "active proctype observer() { byte inside; end: do :: enter?_ -> inside++; assert(inside < 2) :: leave?_ -> inside-- od }\n"
-    ) + "".join(user[1] for user in users)
+    ) + "".join(user_of_three_in_promela(*user) for user in users)
     return Model("Peterson, 3 users", script, [f"user{me}" for me in range(3)], promela)
 
 
