@@ -17,7 +17,7 @@ use Rattle.cell.specs.declared.granting.Grant.TheVariants.{Given, Late}
 use Rattle.cell_table.specs.Told.{Agrees, settled}
 use Rattle.cell_table.specs.Views.{did, saw}
 use Rattle.protocol_values.specs.declared.Step.TheVariants.{Grant}
-use Rattle.protocol.specs.Tables.{bound_row}
+use Rattle.protocol_ledger.specs.Tables.{bound_row}
 use Rattle.protocol_values.specs.Values.{joined_of}
 use Rattle.cell_table.specs.declared.view.Seen.{Seen}
 use Rattle.cell_table.specs.Sight.{Has, HaveOffer, HasSeenLast, Learns, LearnsOf, IsBefore, SawCommitted, SeesOffer, next_stamp, see_cell, see_opened}

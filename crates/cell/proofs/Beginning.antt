@@ -1,7 +1,7 @@
 -- A first table begins where its opening says.
 use Rattle.std.proofs.Common.{◌∙◌, ◌≡◌, ◌<◌, ℕ, zero, suc, List, [], ◌∷◌, length, map, slice_get, Some, inr, sym, refl, arith}
 use Rattle.std.proofs.lemmas.List.{length-map}
-use Rattle.protocol.specs.Openings.{start_opening}
+use Rattle.protocol_ledger.specs.Openings.{start_opening}
 use Rattle.protocol_ledger.proofs.LedgerLemmas.{start_threads}
 use Rattle.cell_table.specs.Rule.{AreMachines}
 

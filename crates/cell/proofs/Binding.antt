@@ -5,9 +5,9 @@ use Rattle.protocol_values.specs.declared.NackName.{NackName}
 use Rattle.protocol_values.specs.declared.NackWord.{NackWord}
 use Rattle.protocol_values.specs.declared.NackWord.TheVariants.{Bound, Carried, Unbound}
 use Rattle.protocol_values.specs.declared.Row.{Row}
-use Rattle.protocol.specs.Standing.{Stands}
-use Rattle.protocol.specs.Tables.{bound_row}
-use Rattle.protocol.specs.Worlds.{nack_of_row}
+use Rattle.protocol_ledger.specs.Standing.{Stands}
+use Rattle.protocol_ledger.specs.Tables.{bound_row}
+use Rattle.protocol_ledger.specs.Worlds.{nack_of_row}
 use Rattle.cell.specs.Attempts.{BoundBefore}
 use Rattle.cell_table.specs.declared.view.View.{View}
 use Rattle.cell_table.specs.Sight.{Has, see_bound, see_carried}

@@ -1,6 +1,6 @@
 -- Tables whose threads have words for all rows.
 use Rattle.std.proofs.Common.{◌≤◌, ◌<◌, ℕ, arith}
-use Rattle.protocol.specs.Short.{Fits, even, rows_of}
+use Rattle.protocol_ledger.specs.Short.{Fits, even, rows_of}
 use Rattle.protocol_ledger.proofs.Short.{even_fits, even_rows}
 use Rattle.cell.specs.Calls.{AllHaveWords}
 

@@ -5,10 +5,10 @@ use Rattle.std.proofs.lemmas.List.{get_or-set_same, get_or-set_other}
 use Rattle.protocol_values.specs.declared.Joined.{Joined}
 use Rattle.protocol_values.specs.declared.Row.{Row}
 use Rattle.protocol_values.specs.Values.{next_row}
-use Rattle.protocol.specs.Tables.{row_eq, number_of}
+use Rattle.protocol_ledger.specs.Tables.{row_eq, number_of}
 use Rattle.protocol_ledger.proofs.RowLemmas.{row_cases, row_eq-false, same_row}
 use Rattle.protocol_ledger.proofs.Places.{same_block, same_rest, block_inside}
-use Rattle.protocol.specs.Worlds.{first_row}
+use Rattle.protocol_ledger.specs.Worlds.{first_row}
 use Rattle.cell.specs.Attempts.{Started, Took}
 use Rattle.cell.specs.Flags.{AreFlags, places_behind, places_of}
 use Rattle.cell_table.specs.declared.view.Seen.{Seen}

@@ -4,7 +4,7 @@ use Rattle.protocol_values.specs.declared.Binding.{Binding}
 use Rattle.protocol_values.specs.declared.NackName.{NackName}
 use Rattle.protocol_values.specs.declared.Offer.{Offer}
 use Rattle.protocol_values.specs.declared.Row.{Row}
-use Rattle.protocol.specs.Standing.{Result}
+use Rattle.protocol_ledger.specs.Standing.{Result}
 use Rattle.cell_table.specs.declared.view.Seen.{Seen}
 use Rattle.cell_table.specs.Rule.{heard, told_of}
 use Rattle.cell_table.specs.Sight.{Has, SeesNoOffer, SeesOffer}

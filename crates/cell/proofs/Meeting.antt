@@ -9,7 +9,7 @@ use Rattle.protocol_values.specs.declared.Joined.{Joined}
 use Rattle.protocol_values.specs.declared.Base.{Base}
 use Rattle.protocol_values.specs.declared.Base.TheVariants.{Send, Recv, Always, OnNack, OnEnd, Never}
 use Rattle.protocol_values.specs.declared.Message.{Message}
-use Rattle.protocol.specs.Tables.{offers_meet, is_partner, is_fresh}
+use Rattle.protocol_ledger.specs.Tables.{offers_meet, is_partner, is_fresh}
 use Rattle.protocol_values.specs.Values.{bases_meet, joined_of}
 use Rattle.protocol_ledger.proofs.RowLemmas.{row_eq-refl}
 use Rattle.cell_table.specs.Sight.{Coherent, SawChosen, LackOffer, IsKnownOpen, Has, HaveDirection, HasSeenLast, CanJoin, Learns, LearnsOf, next_stamp, see_opened, SawCommitted, see_cell}

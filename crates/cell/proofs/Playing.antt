@@ -4,14 +4,14 @@ use Rattle.std.proofs.lemmas.Bool.{cases_Bool, true≢false, or_left, or_right}
 use Rattle.std.proofs.lemmas.List.{length-append}
 use Rattle.std.proofs.Math.Nat.{mod-eq_of_lt}
 use Rattle.protocol_values.specs.declared.Row.{Row}
-use Rattle.protocol.specs.Tables.{row_eq}
+use Rattle.protocol_ledger.specs.Tables.{row_eq}
 use Rattle.protocol_ledger.specs.declared.opening.Life.{Life}
 use Rattle.protocol_ledger.specs.declared.opening.Life.TheVariants as life
-use Rattle.protocol.specs.Openings.{Opening, is_running, start_opening, thread_in}
+use Rattle.protocol_ledger.specs.Openings.{Opening, is_running, start_opening, thread_in}
 use Rattle.protocol_ledger.proofs.LedgerLemmas.{first_thread, nobody_waits}
 use Rattle.protocol_ledger.proofs.RowLemmas.{row_eq-refl, row_eq-true}
 use Rattle.cell_table.specs.Sight.{Has}
-use Rattle.protocol.specs.Worlds.{first_row}
+use Rattle.protocol_ledger.specs.Worlds.{first_row}
 use Rattle.cell_table.specs.Rule.{is_among, dealt_rows}
 use Rattle.cell_table.proofs.Dealing.{dealt_has, falls_from}
 

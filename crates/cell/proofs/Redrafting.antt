@@ -11,7 +11,7 @@ use Rattle.protocol_ledger.proofs.Linking.{some_inj}
 use Rattle.protocol_values.specs.declared.Row.{Row}
 use Rattle.protocol_values.specs.declared.Step.{Step}
 use Rattle.protocol_values.specs.declared.Step.TheVariants.{Draft}
-use Rattle.protocol.specs.Tables.{row_eq}
+use Rattle.protocol_ledger.specs.Tables.{row_eq}
 use Rattle.cell_table.specs.declared.view.Seen.{Seen}
 use Rattle.cell.specs.Attempts.{OnlyDrafts}
 use Rattle.cell_table.proofs.Hearing.{has_either}

@@ -3,7 +3,7 @@ use Rattle.std.proofs.Common.{◌≡◌, ◌≢◌, ◌⊎◌, ◌∙◌, ℕ, t
 use Rattle.protocol_values.specs.declared.Course.{Course}
 use Rattle.protocol_values.specs.declared.Course.TheVariants.{Unstarted, Running, Ended}
 use Rattle.protocol_values.specs.declared.Row.{Row}
-use Rattle.protocol.specs.Acting.{EndsAt}
+use Rattle.protocol_ledger.specs.Acting.{EndsAt}
 use Rattle.cell.specs.Attempts.{LearnsLast, Started}
 use Rattle.cell_table.specs.declared.board.Board.{Board}
 use Rattle.cell_table.specs.declared.view.View.{View}

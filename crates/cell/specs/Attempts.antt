@@ -11,10 +11,10 @@ use Rattle.protocol_values.specs.declared.Offer.{Offer}
 use Rattle.protocol_values.specs.declared.Row.{Row}
 use Rattle.protocol_values.specs.declared.Step.{Step}
 use Rattle.protocol_values.specs.declared.Step.TheVariants.{Bind, Claim, Draft, Grant as GrantRow, Join, Seal, Start, Take, Yield}
-use Rattle.protocol.specs.Standing.{Result, Stands}
-use Rattle.protocol.specs.Tables.{bound_row, offers_meet}
+use Rattle.protocol_ledger.specs.Standing.{Result, Stands}
+use Rattle.protocol_ledger.specs.Tables.{bound_row, offers_meet}
 use Rattle.protocol_values.specs.Values.{next_row}
-use Rattle.protocol.specs.Worlds.{nack_of_row}
+use Rattle.protocol_ledger.specs.Worlds.{nack_of_row}
 use Rattle.cell_table.specs.declared.board.Board.{Board}
 use Rattle.cell_table.specs.declared.view.Seen.{Seen}
 use Rattle.cell_table.specs.Seats.{HasNack, HasRow}

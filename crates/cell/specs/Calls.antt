@@ -8,9 +8,9 @@ use Rattle.protocol_values.specs.declared.Step.{Step}
 use Rattle.protocol_ledger.specs.declared.opening.Life.{Life}
 use Rattle.protocol_ledger.specs.declared.opening.NackState.{NackState}
 use Rattle.protocol_ledger.specs.declared.layout.Layout.{Layout}
-use Rattle.protocol.specs.Openings.{Opening}
-use Rattle.protocol.specs.Short.{HasWords}
-use Rattle.protocol.specs.Standing.{Result, Stands}
+use Rattle.protocol_ledger.specs.Openings.{Opening}
+use Rattle.protocol_ledger.specs.Short.{HasWords}
+use Rattle.protocol_ledger.specs.Standing.{Result, Stands}
 use Rattle.protocol_ledger.specs.declared.resident.Bare.{Bare}
 use Rattle.cell_table.specs.declared.view.Seen.{Seen}
 use Rattle.cell_table.specs.Rule.{IsReady}

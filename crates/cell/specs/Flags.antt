@@ -1,7 +1,7 @@
 -- A set of rows as flags, row by row.
 use Rattle.std.specs.Prelude.{◌≡◌, ℕ, ◌<◌, ◌↔◌, Bool, true, false, List, [], ◌∷◌, ◌++◌, slice_index_or}
 use Rattle.protocol_values.specs.declared.Row.{Row}
-use Rattle.protocol.specs.Tables.{number_of}
+use Rattle.protocol_ledger.specs.Tables.{number_of}
 use Rattle.cell_table.specs.declared.view.Seen.{Seen}
 use Rattle.cell_table.specs.Sight.{Has}
 use Rattle.cell_table.specs.Views.{behind_last}

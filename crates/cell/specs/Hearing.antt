@@ -6,7 +6,7 @@ use Rattle.protocol_values.specs.declared.NackName.{NackName}
 use Rattle.protocol_values.specs.declared.Offer.{Offer}
 use Rattle.protocol_values.specs.declared.Row.{Row}
 use Rattle.protocol_values.specs.declared.Step.{Step}
-use Rattle.protocol.specs.Standing.{Result}
+use Rattle.protocol_ledger.specs.Standing.{Result}
 use Rattle.cell_table.specs.Sight.{Has, SeesNoOffer, SeesOffer}
 use Rattle.cell.specs.Calls.{GathererOf, HasSteps, PassOf}
 

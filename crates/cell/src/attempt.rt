@@ -13,7 +13,7 @@ ghost use Rattle.cell_table.specs.Views.{at_stage, worked};
 use crate::reading::{direction_of, last_stamp, opened_direction};
 use atomic_table::Seat;
 use cell_table::{Board, View};
-use protocol::Resident;
+use protocol_ledger::Resident;
 use protocol_values::{Cell, Joined, Row};
 
 /// The kinds with which a gate is called: before a claim, a yield, a join and a seal.

@@ -19,11 +19,11 @@ ghost use Rattle.protocol_values.specs.declared.Step.TheVariants.{Finish, Open, 
 ghost use Rattle.protocol_values.specs.declared.Step.{Step};
 ghost use Rattle.protocol_values.specs.declared.NackName.{NackName};
 ghost use Rattle.protocol_values.specs.declared.Binding.{Binding};
-ghost use Rattle.protocol.specs.Ledgers.{IsLawful, binding_in, carried_in, course_in, joined_in, offer_in};
-ghost use Rattle.protocol.specs.Openings.{HadEnded, HadStarted, IsOpening, greatest, opening_of, start_opening, state_in, word_for};
-ghost use Rattle.protocol.specs.Tables.{carried_by};
-ghost use Rattle.protocol.specs.Standing.{AreResults, Result};
-ghost use Rattle.protocol.specs.Worlds.{nack_of_row};
+ghost use Rattle.protocol_ledger.specs.Ledgers.{IsLawful, binding_in, carried_in, course_in, joined_in, offer_in};
+ghost use Rattle.protocol_ledger.specs.Openings.{HadEnded, HadStarted, IsOpening, greatest, opening_of, start_opening, state_in, word_for};
+ghost use Rattle.protocol_ledger.specs.Tables.{carried_by};
+ghost use Rattle.protocol_ledger.specs.Standing.{AreResults, Result};
+ghost use Rattle.protocol_ledger.specs.Worlds.{nack_of_row};
 ghost use Rattle.cell.specs.Attempts.{
   Attempted,
   Bound,
@@ -48,7 +48,7 @@ ghost use Rattle.cell.specs.Attempts.{
   start_made,
   take_made,
 };
-ghost use Rattle.protocol.specs.Short.{Fits as IsLayoutFor, HasWords, even, rows_of};
+ghost use Rattle.protocol_ledger.specs.Short.{Fits as IsLayoutFor, HasWords, even, rows_of};
 ghost use Rattle.cell.specs.Calls.{AllHaveWords, CanFetch, Fetched, HasSteps, Holds, HoldNothing, HoldsAt, IsFollowing, IsHousing, IsNackOf, IsParked, IsPassOf, IsRowOf, IsStandOf, KeepsResults, PassOf, PassView, opening_at};
 ghost use Rattle.cell_table.specs.Closings.{HandsOut, HandsOutWaiting, IsHandedOut};
 ghost use Rattle.cell_table.specs.Told.{GoesHome};
@@ -81,7 +81,7 @@ ghost use Rattle.cell_table.specs.Sight.{
   see_course,
   see_opened,
 };
-ghost use Rattle.protocol.specs.Acting.{ActsAs, EndsAt, HasStart, acts_in, before_of};
+ghost use Rattle.protocol_ledger.specs.Acting.{ActsAs, EndsAt, HasStart, acts_in, before_of};
 
 use crate::attempt::{Attempt, StepGate, attempt_rows};
 use crate::drafting::draft_offers;
@@ -92,7 +92,7 @@ use crate::taking::take_row;
 use crate::{nacks, reading};
 use atomic_table::Seat;
 use cell_table::{Board, Shape, View};
-use protocol::{Bare, Layout, Ledger, Life, OFFERS, Opening, Resident, next_words};
+use protocol_ledger::{Bare, Layout, Ledger, Life, OFFERS, Opening, Resident, next_words};
 use protocol_values::{Cell, Course, Direction, Joined, Message, NackName, NackWord, Offer, Row};
 use std::alloc::{AllocError, Global};
 use std::marker::Model;

@@ -8,18 +8,18 @@ ghost use Rattle.protocol_values.specs.declared.NackName.{NackName};
 ghost use Rattle.protocol_values.specs.declared.Offer.{Offer};
 ghost use Rattle.protocol_values.specs.declared.Row.{Row};
 ghost use Rattle.protocol_values.specs.declared.Step.TheVariants.{Open, Take};
-ghost use Rattle.protocol.specs.Acting.{ActsAs, EndsAt, HasStart, acts_in, before_of};
-ghost use Rattle.protocol.specs.Ledgers.{IsLawful, binding_in, carried_in, course_in, joined_in, offer_in};
-ghost use Rattle.protocol.specs.Openings.{HadEnded, HadStarted, greatest, state_in, word_for};
-ghost use Rattle.protocol.specs.Standing.{AreResults, Result};
-ghost use Rattle.protocol.specs.Tables.{carried_by};
+ghost use Rattle.protocol_ledger.specs.Acting.{ActsAs, EndsAt, HasStart, acts_in, before_of};
+ghost use Rattle.protocol_ledger.specs.Ledgers.{IsLawful, binding_in, carried_in, course_in, joined_in, offer_in};
+ghost use Rattle.protocol_ledger.specs.Openings.{HadEnded, HadStarted, greatest, state_in, word_for};
+ghost use Rattle.protocol_ledger.specs.Standing.{AreResults, Result};
+ghost use Rattle.protocol_ledger.specs.Tables.{carried_by};
 ghost use Rattle.cell_table.specs.Closings.{HandsOut, HandsOutWaiting, IsHandedOut};
 ghost use Rattle.cell_table.specs.Sight.{Has, SeesNoOffer, SeesOffer};
 ghost use Rattle.cell.specs.Calls.{IsHousing, IsNackOf, IsPassOf, PassOf, opening_at};
 ghost use Rattle.cell.specs.Hearing.{HasGathered, HasHeard};
 
 use crate::cells::{Cells, Gatherer, Pass};
-use protocol::{Ledger, Resident};
+use protocol_ledger::{Ledger, Resident};
 
 impl<M: Resident + Drop> Cells<M> {
     /// Ends the table: its ledger has all that any of these passes has seen or was told. What stands for the threads of

@@ -5,7 +5,7 @@ ghost use Rattle.protocol_values.specs.Words.{IsOfferInRange, atom_of};
 ghost use Rattle.protocol_values.specs.declared.Offer.{Offer};
 ghost use Rattle.cell.specs.Attempts.{OnlyDrafts};
 ghost use Rattle.cell_table.specs.declared.view.Stage.TheVariants.{Resting};
-ghost use Rattle.protocol.specs.Short.{HasWords, short_place};
+ghost use Rattle.protocol_ledger.specs.Short.{HasWords, short_place};
 ghost use Rattle.cell_table.specs.Seats.{Sits, HasRow, StaysSeated};
 ghost use Rattle.cell_table.specs.Sight.{AreOffers, Has, HasDrafted, IsDraft, IsPlaceOf, Redrafts, SawEnded};
 ghost use Rattle.cell_table.specs.Views.{worked};
@@ -13,7 +13,7 @@ ghost use Rattle.cell_table.specs.Views.{worked};
 use crate::reading::atoms_told;
 use atomic_table::Seat;
 use cell_table::{Board, View};
-use protocol::Resident;
+use protocol_ledger::Resident;
 use protocol_values::{Offer, Row, pack_count, pack_offer, read_head};
 
 /// Writes a list of offers for a held row that is not opened yet, in place of what was written before: no more than

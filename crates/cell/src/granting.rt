@@ -11,7 +11,7 @@ use crate::nacks::cause_of;
 use crate::reading::{last_stamp, offer_of};
 use atomic_table::Seat;
 use cell_table::{Board, View};
-use protocol::Resident;
+use protocol_ledger::Resident;
 use protocol_values::{Joined, Row};
 
 /// What became of a grant.

@@ -17,5 +17,3 @@ mod taking;
 pub use crate::attempt::{Attempt, CLAIM, JOIN, NoGate, SEAL, StepGate, YIELD};
 pub use crate::cells::{Cells, Pass};
 pub use crate::granting::Grant;
-pub use cell_table::{Seen, every_moment_is_lawful};
-pub use protocol::{Bare, NACKS, Resident};

@@ -12,7 +12,7 @@ ghost use Rattle.cell_table.specs.Views.{stood_at, worked};
 use crate::reading::last_at;
 use atomic_table::Seat;
 use cell_table::{Board, View};
-use protocol::Resident;
+use protocol_ledger::Resident;
 use protocol_values::{Course, Row};
 
 /// Starts the thread at the last stamp of the place at which the pass stands, where the thread has not started.

@@ -5,8 +5,8 @@ ghost use Rattle.protocol_values.specs.declared.Base.TheVariants.{OnEnd, OnNack}
 ghost use Rattle.protocol_values.specs.declared.Binding.{Binding};
 ghost use Rattle.protocol_values.specs.declared.Joined.{Joined};
 ghost use Rattle.protocol_values.specs.declared.NackName.{NackName};
-ghost use Rattle.protocol.specs.Tables.{bound_row};
-ghost use Rattle.protocol.specs.Worlds.{nack_of_row};
+ghost use Rattle.protocol_ledger.specs.Tables.{bound_row};
+ghost use Rattle.protocol_ledger.specs.Worlds.{nack_of_row};
 ghost use Rattle.cell.specs.Attempts.{Bound, BoundBefore, IsBoundRow, SaysOf, bind_made};
 ghost use Rattle.cell_table.specs.Nacks.{IsCauseRow, IsReadyAlone, SawCause, SawEnabled};
 ghost use Rattle.cell_table.specs.declared.view.Stage.TheVariants.{Resting};
@@ -17,7 +17,7 @@ ghost use Rattle.cell_table.specs.Views.{at_stage, worked};
 use crate::reading::{end_stamp, opened_offer};
 use atomic_table::Seat;
 use cell_table::{Board, View};
-use protocol::Resident;
+use protocol_ledger::Resident;
 use protocol_values::{Base, Binding, Cell, Joined, NackName, NackWord, Row};
 
 /// What the nack's word says, by a look at it. A nack that the table has not is not bound.

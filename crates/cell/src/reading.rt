@@ -7,15 +7,15 @@ ghost use Rattle.protocol_values.specs.declared.Message.{Message};
 ghost use Rattle.protocol_values.specs.declared.Base.TheVariants.{Recv, Send};
 ghost use Rattle.protocol_values.specs.declared.Offer.{Offer};
 ghost use Rattle.protocol_values.specs.declared.Row.{Row};
-ghost use Rattle.protocol.specs.Short.{short_place};
-ghost use Rattle.protocol.specs.Tables.{names};
+ghost use Rattle.protocol_ledger.specs.Short.{short_place};
+ghost use Rattle.protocol_ledger.specs.Tables.{names};
 ghost use Rattle.cell_table.specs.Seats.{Sits, HasRow, StaysSeated};
 ghost use Rattle.cell_table.specs.Sight.{Has, HaveDirection, HaveOffer, HasSeenLast, IsBefore, IsKnownOpen, IsPartnerOf, IsReached, IsResult, LackOffer, SawCommitted, SawEnded, SeesDirection, SeesOffer, Learns, LearnsOf, atoms_told};
 ghost use Rattle.cell_table.specs.Views.{at_stage};
 
 use atomic_table::Seat;
 use cell_table::{Board, View};
-use protocol::Resident;
+use protocol_ledger::Resident;
 use protocol_values::{
     Base, Cell, Course, Direction, Joined, Message, Offer, Row, read_head, read_offer, unpack_count,
 };

@@ -2,7 +2,7 @@
 
 ghost use Rattle.std.specs.Prelude.{◌≡◌, ◌*◌, ◌<◌, ◌↔◌, IfOk, IsTrue, List, [], ◌∷◌, length};
 ghost use Rattle.protocol_values.specs.declared.Row.{Row};
-ghost use Rattle.protocol.specs.Tables.{number_of};
+ghost use Rattle.protocol_ledger.specs.Tables.{number_of};
 ghost use Rattle.cell.specs.Flags.{AreFlags};
 ghost use Rattle.cell_table.specs.Sight.{Has};
 

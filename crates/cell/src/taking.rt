@@ -9,7 +9,7 @@ ghost use Rattle.cell_table.specs.Views.{with_results, worked};
 
 use atomic_table::Seat;
 use cell_table::{Board, View};
-use protocol::Resident;
+use protocol_ledger::Resident;
 use protocol_values::{Cell, Joined, Row};
 
 /// Takes the row, where it is committed and nobody has taken it.

@@ -9,7 +9,7 @@ use Rattle.protocol_values.specs.Values.{joined_of, next_row}
 use Rattle.protocol_values.specs.declared.Offer.{Offer}
 use Rattle.protocol_values.specs.declared.Step.{Step}
 use Rattle.protocol_values.specs.declared.Step.TheVariants.{Bind}
-use Rattle.protocol.specs.Worlds.{nack_of_row}
+use Rattle.protocol_ledger.specs.Worlds.{nack_of_row}
 use Rattle.std.proofs.lemmas.Bool.{lt-ltb}
 use Rattle.cell.specs.Attempts.{Attempted, Bound, Fits, Took, attempt_made, bind_made}
 use Rattle.cell.specs.Calls.{Grid, IsRowOf, KeepsResults}

@@ -2,7 +2,7 @@
 use Rattle.std.proofs.Common.{◌≡◌, ◌++◌, ◌∙◌, ◌∷◌, List, [], ap, map, option_map, refl, subst, ℕ}
 use Rattle.std.specs.Prelude.{IfOk, Ok, Err, Result, Some, slice_get}
 use Rattle.std.proofs.lemmas.Option.{get_or_from_slice_get, slice_get-map, slice_get_within}
-use Rattle.protocol.specs.Openings.{start_opening}
+use Rattle.protocol_ledger.specs.Openings.{start_opening}
 use Rattle.cell.specs.Calls.{Grid, PassView}
 use Rattle.cell_hand.specs.Calls.{AreHands, IsDealt}
 use Rattle.cell_table.specs.Rule.{dealt_from, seen_nothing}

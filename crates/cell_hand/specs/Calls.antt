@@ -9,8 +9,8 @@ use Rattle.protocol_values.specs.declared.NackName.{NackName}
 use Rattle.protocol_values.specs.declared.Offer.{Offer}
 use Rattle.protocol_values.specs.declared.Row.{Row}
 use Rattle.protocol_values.specs.declared.Step.TheVariants.{Bind, Finish, Open, Take}
-use Rattle.protocol.specs.Openings.{start_opening}
-use Rattle.protocol.specs.Worlds.{first_row, nack_of_row}
+use Rattle.protocol_ledger.specs.Openings.{start_opening}
+use Rattle.protocol_ledger.specs.Worlds.{first_row, nack_of_row}
 use Rattle.cell.specs.Attempts.{Attempted, Fits, Granted, OnlyDrafts, Took, attempt_made, grant_made, start_made}
 use Rattle.cell.specs.declared.attempt.Attempt.{Attempt}
 use Rattle.cell.specs.declared.granting.Grant.{Grant}

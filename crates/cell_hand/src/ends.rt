@@ -4,13 +4,13 @@ ghost use Rattle.std.specs.Prelude.{◌≡◌, ℕ, IfErr, IfOk, Some};
 ghost use Rattle.protocol_values.specs.declared.Joined.{Joined};
 ghost use Rattle.protocol_values.specs.declared.Offer.{Offer};
 ghost use Rattle.protocol_values.specs.declared.Row.{Row};
-ghost use Rattle.protocol.specs.Ledgers.{IsLawful, joined_in, offer_in};
+ghost use Rattle.protocol_ledger.specs.Ledgers.{IsLawful, joined_in, offer_in};
 ghost use Rattle.cell_table.specs.Sight.{Has, SeesOffer};
 ghost use Rattle.cell_hand.specs.Calls.{Finishes, Starts};
 
 use crate::hand::{Hand, Table};
 use crate::refusal::Refusal;
-use protocol::Ledger;
+use protocol_ledger::Ledger;
 use protocol_values::Row;
 use std::sync::Arc;
 

@@ -3,7 +3,7 @@
 ghost use Rattle.std.specs.Prelude.{◌≡◌, ◌≢◌, ◌⊎◌, ◌<◌, ◌≤◌, ℕ, All, IfErr, IfOk, IsTrue, MatchBool, ◌↔◌, Some, length, slice_get};
 ghost use Rattle.protocol_values.specs.declared.Joined.{Joined};
 ghost use Rattle.protocol_values.specs.declared.Row.{Row};
-ghost use Rattle.protocol.specs.Ledgers.{IsLawful, joined_in};
+ghost use Rattle.protocol_ledger.specs.Ledgers.{IsLawful, joined_in};
 ghost use Rattle.cell.specs.Calls.{HoldsAt, IsPassOf, IsRowOf, PassView};
 ghost use Rattle.meet_directory.specs.Seats.{Sits};
 ghost use Rattle.cell_table.specs.Sight.{Has};
@@ -12,9 +12,10 @@ ghost use Rattle.cell_hand.specs.Calls.{AreHands, CanDeal, IsDealt};
 ghost use Rattle.cell_hand.specs.declared.refusal.Refusal.TheVariants.{Memory, NoRow, NotHeld, Range};
 
 use crate::refusal::Refusal;
-use cell::{Bare, Cells, Pass};
+use protocol_ledger::Bare;
+use cell::{Cells, Pass};
 use meet_directory::{Directory, DirectoryPass};
-use protocol::Ledger;
+use protocol_ledger::Ledger;
 use protocol_values::{Cell, Course, Offer, Row};
 use std::alloc::Global;
 use std::marker::Model;

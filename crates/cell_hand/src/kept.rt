@@ -1,7 +1,7 @@
 //! What a handle keeps.
 
 use crate::hand::Hand;
-use protocol::Ledger;
+use protocol_ledger::Ledger;
 
 /// A hand, or the ledger of the table that the hand has ended.
 #[derive(Drop)]

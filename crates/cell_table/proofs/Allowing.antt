@@ -21,12 +21,12 @@ use Rattle.protocol_values.specs.declared.Joined.{Joined}
 use Rattle.protocol_values.specs.declared.Message.{Message}
 use Rattle.protocol_values.specs.declared.Cell.{Cell}
 use Rattle.protocol_values.specs.declared.Cell.TheVariants.{Fresh, Waiting, Claimed, Synched, Taken}
-use Rattle.protocol.specs.Short.{row_len, short_place, wide_table, widen}
-use Rattle.protocol.specs.Tables.{Table, is_row, is_fresh, cell_at, joined_at, names, is_partner, word_at, row_eq, synched_of, is_taken, course_at}
+use Rattle.protocol_ledger.specs.Short.{row_len, short_place, wide_table, widen}
+use Rattle.protocol_ledger.specs.Tables.{Table, is_row, is_fresh, cell_at, joined_at, names, is_partner, word_at, row_eq, synched_of, is_taken, course_at}
 use Rattle.protocol_values.specs.Values.{joined_of, next_row}
-use Rattle.protocol.specs.Openings.{Opening, greatest}
-use Rattle.protocol.specs.Worlds.{World, Condition, after_step, namer_at, joined_with, mirrored, with_seal, with_table, with_cell, with_word, holder_at, with_take, Allowed, IsAlive, first_row, last_holder}
-use Rattle.protocol.specs.Kept.{Kept}
+use Rattle.protocol_ledger.specs.Openings.{Opening, greatest}
+use Rattle.protocol_ledger.specs.Worlds.{World, Condition, after_step, namer_at, joined_with, mirrored, with_seal, with_table, with_cell, with_word, holder_at, with_take, Allowed, IsAlive, first_row, last_holder}
+use Rattle.protocol_ledger.specs.Kept.{Kept}
 use Rattle.protocol_ledger.proofs.RowLemmas.{row_ne, row_cases, row_eq-refl, same_row, put, put_other, put_same}
 use Rattle.protocol_ledger.proofs.Naming.{namer_none, namer_is}
 use Rattle.protocol_ledger.proofs.Places.{row_from, row_inside}
@@ -39,8 +39,8 @@ use Rattle.cell_table.specs.declared.view.Stage.{Stage}
 use Rattle.cell_table.specs.declared.view.Stage.TheVariants.{Resting, Claims, Joins, Aside, Left}
 use Rattle.cell_table.specs.declared.view.Seen.{Seen}
 use Rattle.cell_table.specs.Sight.{OpenHaveWords, AreSettled, Has, CanJoin, Coherent, IsResult, IsStand, SawEnded, see_cell, see_held}
-use Rattle.protocol.specs.Standing.{AreResults, IsLeft, Result, Stands}
-use Rattle.protocol.specs.Ledgers.{joined_in as ledger_joined, ledger_of}
+use Rattle.protocol_ledger.specs.Standing.{AreResults, IsLeft, Result, Stands}
+use Rattle.protocol_ledger.specs.Ledgers.{joined_in as ledger_joined, ledger_of}
 use Rattle.protocol_ledger.proofs.LedgerLemmas.{joined_in_ledger, lawful_ledger}
 use Rattle.protocol_ledger.proofs.Onward.{grows-step}
 use Rattle.protocol_ledger.proofs.Results.{joined-results}

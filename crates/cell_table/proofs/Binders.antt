@@ -11,9 +11,9 @@ use Rattle.protocol_values.specs.declared.Row.{Row}
 use Rattle.protocol_values.specs.declared.Seat.{Seat}
 use Rattle.protocol_values.specs.declared.Step.{Step}
 use Rattle.protocol_values.specs.declared.Step.TheVariants.{Draft, Open, Look, Read, Claim, Yield, Join, Seal, Grant, Take, Bind, Start, Finish}
-use Rattle.protocol.specs.Kept.{Kept}
-use Rattle.protocol.specs.Tables.{Table, binding_at, is_fresh, is_row, synched_of}
-use Rattle.protocol.specs.Worlds.{Allowed, Plays, World, after_step, nack_of_row, namer_at, sealed_by, with_cell, with_seal, with_take}
+use Rattle.protocol_ledger.specs.Kept.{Kept}
+use Rattle.protocol_ledger.specs.Tables.{Table, binding_at, is_fresh, is_row, synched_of}
+use Rattle.protocol_ledger.specs.Worlds.{Allowed, Plays, World, after_step, nack_of_row, namer_at, sealed_by, with_cell, with_seal, with_take}
 use Rattle.protocol_ledger.proofs.Keeping.{bind_in_range, held_row, kept_schedule}
 use Rattle.protocol_ledger.proofs.Places.{row_inside}
 use Rattle.protocol_ledger.proofs.Readings.{binding_after_cell, binding_after_life, binding_after_word, binding_was, row_of_open}
@@ -46,7 +46,7 @@ step_binds w seat (Yield x) n b k a e = inl (cell_binds w.table x Waiting n b (h
 step_binds w seat (Join m i o p) n b k a e = inl (cell_binds w.table o _ n b (row_of_open w.table o (ap is_fresh a.1.3)) e)
 step_binds w seat (Seal x) n b k a e = inl (seal_binds w.table x (sealed_by w.table (namer_at w x)) n b (held_row w x seat.0 a.1.0) e)
 step_binds w seat (Grant x m) n b k a e = inl (cell_binds w.table x _ n b (row_of_open w.table x (ap is_fresh a.1.0)) e)
-step_binds w seat (Take x) n b k a e = inl (take_binds w.table x (synched_of (Rattle.protocol.specs.Tables.cell_at w.table x)) n b (row_of_open w.table x (ap is_fresh (synched_is _ a.1).1)) e)
+step_binds w seat (Take x) n b k a e = inl (take_binds w.table x (synched_of (Rattle.protocol_ledger.specs.Tables.cell_at w.table x)) n b (row_of_open w.table x (ap is_fresh (synched_is _ a.1).1)) e)
 step_binds w seat (Bind m x scope) n b k a e =
     let row = held_row w x seat.0 a.1.0 in
     ⊎_elim

@@ -16,13 +16,13 @@ use Rattle.protocol_values.specs.declared.NackWord.{NackWord}
 use Rattle.protocol_values.specs.declared.NackWord.TheVariants.{Bound, Carried, Unbound}
 use Rattle.protocol_values.specs.declared.Course.{Course}
 use Rattle.protocol_values.specs.declared.Row.{Row}
-use Rattle.protocol.specs.Tables.{Table, bound_row, cell_at, course_at, is_fresh, is_nack, is_taken, nack_at, nack_says, binding_at, bound_by, carried_at, carried_by}
+use Rattle.protocol_ledger.specs.Tables.{Table, bound_row, cell_at, course_at, is_fresh, is_nack, is_taken, nack_at, nack_says, binding_at, bound_by, carried_at, carried_by}
 use Rattle.protocol_values.specs.Values.{joined_of}
-use Rattle.protocol.specs.Openings.{Opening, greatest}
-use Rattle.protocol.specs.Worlds.{World, holder_at, with_nack, with_table}
-use Rattle.protocol.specs.Kept.{Kept}
+use Rattle.protocol_ledger.specs.Openings.{Opening, greatest}
+use Rattle.protocol_ledger.specs.Worlds.{World, holder_at, with_nack, with_table}
+use Rattle.protocol_ledger.specs.Kept.{Kept}
 use Rattle.protocol_ledger.proofs.Linking.{cases_Option, some_inj, some_parts}
-use Rattle.protocol.specs.Short.{HasWords, short_nack_place, widen}
+use Rattle.protocol_ledger.specs.Short.{HasWords, short_nack_place, widen}
 use Rattle.protocol_ledger.proofs.Places.{word_bound}
 use Rattle.protocol_ledger.proofs.Short.{set_nack, short_nack}
 use Rattle.cell_table.proofs.Shortness.{same_short_nack}
@@ -32,11 +32,11 @@ use Rattle.cell_table.specs.declared.view.View.{View}
 use Rattle.cell_table.specs.declared.view.Shape.{Shape}
 use Rattle.cell_table.specs.declared.view.Stage.TheVariants.{Aside, Left, Resting}
 use Rattle.cell_table.specs.Sight.{Has, SawEnded}
-use Rattle.protocol.specs.Acting.{EndsAt, HasStart}
+use Rattle.protocol_ledger.specs.Acting.{EndsAt, HasStart}
 use Rattle.cell_table.specs.Views.{Knows, bind_of, bound_nack, carried_nack, did, saw_nack, opening_in}
 use Rattle.cell_table.specs.Rule.{IsToBegin, Keeps, beginning}
 use Rattle.cell_table.proofs.Standing.{is_earlier}
-use Rattle.protocol.specs.Standing.{Stands}
+use Rattle.protocol_ledger.specs.Standing.{Stands}
 use Rattle.protocol_values.specs.declared.Step.{Step}
 use Rattle.protocol_values.specs.declared.Step.TheVariants.{Draft, Open, Look, Read, Claim, Yield, Join, Seal, Grant, Take, Bind, Start, Finish}
 use Rattle.protocol_values.specs.declared.Cell.{Cell}

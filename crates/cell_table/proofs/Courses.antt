@@ -10,16 +10,16 @@ use Rattle.protocol_values.specs.declared.Course.TheVariants.{Unstarted, Running
 use Rattle.protocol_values.specs.declared.Row.{Row}
 use Rattle.protocol_values.specs.declared.Step.{Step}
 use Rattle.protocol_values.specs.declared.Step.TheVariants.{Draft, Open, Look, Read, Claim, Yield, Join, Seal, Grant, Take, Bind, Start, Finish}
-use Rattle.protocol.specs.Growing.{GoesOn}
-use Rattle.protocol.specs.Kept.{Kept}
-use Rattle.protocol.specs.Ledgers.{LivesAt}
-use Rattle.protocol.specs.Tables.{Table, cell_at, course_at, is_fresh, is_taken}
-use Rattle.protocol.specs.Worlds.{HasEnded, World}
+use Rattle.protocol_ledger.specs.Growing.{GoesOn}
+use Rattle.protocol_ledger.specs.Kept.{Kept}
+use Rattle.protocol_ledger.specs.Ledgers.{LivesAt}
+use Rattle.protocol_ledger.specs.Tables.{Table, cell_at, course_at, is_fresh, is_taken}
+use Rattle.protocol_ledger.specs.Worlds.{HasEnded, World}
 use Rattle.protocol_ledger.proofs.Keeping.{taken_before}
 use Rattle.protocol_ledger.proofs.Linking.{taken_open}
 use Rattle.protocol_ledger.proofs.Readings.{course_outside}
-use Rattle.protocol.specs.Acting.{EndedAs, EndsAt, HasStart, StartedAs}
-use Rattle.protocol.specs.Standing.{Result}
+use Rattle.protocol_ledger.specs.Acting.{EndedAs, EndsAt, HasStart, StartedAs}
+use Rattle.protocol_ledger.specs.Standing.{Result}
 
 pub one_end_of : (c : Course) (a b : ℕ) → EndsAt c a → EndsAt c b → a ≡ b
 one_end_of Unstarted a b g h = absurd g

@@ -19,23 +19,23 @@ use Rattle.protocol_ledger.specs.declared.opening.Life.{Life}
 use Rattle.protocol_ledger.specs.declared.opening.Life.TheVariants as life
 use Rattle.protocol_values.specs.Words.{count_of}
 use Rattle.protocol_ledger.specs.declared.layout.Layout.{Layout}
-use Rattle.protocol.specs.Short.{Fits, words_below}
-use Rattle.protocol.specs.Openings.{AreFirstWords, Begins, HadEnded, HadStarted, IsOpening, Opening, course_for, greatest, held_first, is_running, thread_in}
-use Rattle.protocol.specs.Tables.{all_rows, course_at, cell_at, word_at, binding_at, bound_row, carried_at, is_fresh, is_row}
-use Rattle.protocol.specs.Worlds.{World, holder_at, first_row}
+use Rattle.protocol_ledger.specs.Short.{Fits, words_below}
+use Rattle.protocol_ledger.specs.Openings.{AreFirstWords, Begins, HadEnded, HadStarted, IsOpening, Opening, course_for, greatest, held_first, is_running, thread_in}
+use Rattle.protocol_ledger.specs.Tables.{all_rows, course_at, cell_at, word_at, binding_at, bound_row, carried_at, is_fresh, is_row}
+use Rattle.protocol_ledger.specs.Worlds.{World, holder_at, first_row}
 use Rattle.protocol_ledger.proofs.Beginning.{first_binding, first_carried, first_cell, first_course}
 use Rattle.protocol_ledger.proofs.Linking.{some_inj}
 use Rattle.protocol_ledger.proofs.FirstWords.{next_begins}
 use Rattle.protocol_ledger.proofs.Places.{row_from}
 use Rattle.protocol_ledger.proofs.RowLemmas.{same_row}
-use Rattle.protocol.specs.Standing.{AreResults, Result, Stands}
-use Rattle.protocol.specs.Ledgers.{ledger_of}
+use Rattle.protocol_ledger.specs.Standing.{AreResults, Result, Stands}
+use Rattle.protocol_ledger.specs.Ledgers.{ledger_of}
 use Rattle.protocol_ledger.proofs.Acting.{ends-begin, starts-begin}
 use Rattle.cell_table.specs.declared.view.View.{View}
 use Rattle.cell_table.specs.declared.view.Shape.{Shape}
 use Rattle.cell_table.specs.declared.view.Stage.TheVariants.{Aside, Resting}
 use Rattle.cell_table.specs.Sight.{OpenHaveWords, Coherent, Has, WasSettled}
-use Rattle.protocol.specs.Acting.{EndsAt, acts_in}
+use Rattle.protocol_ledger.specs.Acting.{EndsAt, acts_in}
 use Rattle.cell_table.specs.Closings.{words_of}
 use Rattle.cell_table.specs.Views.{Knows, RunsIn, behind_last, opening_in}
 use Rattle.cell_table.specs.Rule.{AreMachines, Housed, Interleaves, IsToBegin, Keeps, Move, Seated, Waits, at_seat, beginning, dealer, dealt_from, dealt_pass, falls_to, no_offers, seen_nothing, steps_by}

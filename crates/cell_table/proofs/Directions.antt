@@ -8,7 +8,7 @@ use Rattle.protocol_values.specs.declared.Direction.TheVariants.{Send, Recv, Alw
 use Rattle.protocol_values.specs.declared.Head.{Head}
 use Rattle.protocol_values.specs.declared.Offer.{Offer}
 use Rattle.protocol_values.specs.declared.Row.{Row}
-use Rattle.protocol.specs.Tables.{offers_meet}
+use Rattle.protocol_ledger.specs.Tables.{offers_meet}
 use Rattle.protocol_values.specs.Values.{bases_meet}
 use Rattle.protocol_ledger.proofs.Linking.{some_inj}
 use Rattle.cell_table.specs.declared.view.Seen.{Seen}

@@ -13,13 +13,13 @@ use Rattle.protocol_values.specs.declared.Course.{Course}
 use Rattle.protocol_values.specs.declared.Row.{Row}
 use Rattle.protocol_values.specs.declared.Step.{Step}
 use Rattle.protocol_values.specs.declared.Step.TheVariants.{Open, Take}
-use Rattle.protocol.specs.Kept.{Kept, Linked}
+use Rattle.protocol_ledger.specs.Kept.{Kept, Linked}
 use Rattle.protocol_ledger.specs.declared.opening.Life.{Life}
 use Rattle.protocol_ledger.specs.declared.opening.Life.TheVariants as life
-use Rattle.protocol.specs.Openings.{HadEnded, HadStarted, Opening, course_for, greatest, state_in, thread_in, word_for}
-use Rattle.protocol.specs.Short.{Fits, HasWords, short_place, wide_table, words_below}
+use Rattle.protocol_ledger.specs.Openings.{HadEnded, HadStarted, Opening, course_for, greatest, state_in, thread_in, word_for}
+use Rattle.protocol_ledger.specs.Short.{Fits, HasWords, short_place, wide_table, words_below}
 use Rattle.protocol_ledger.proofs.Short.{short_word}
-use Rattle.protocol.specs.Tables.{Table, carried_by, cell_at, course_at, is_fresh, is_taken, joined_at, marks_at, offer_at, word_at}
+use Rattle.protocol_ledger.specs.Tables.{Table, carried_by, cell_at, course_at, is_fresh, is_taken, joined_at, marks_at, offer_at, word_at}
 use Rattle.protocol_ledger.proofs.Closing.{none_later}
 use Rattle.protocol_ledger.proofs.Places.{row_from}
 use Rattle.protocol_values.specs.Words.{cell_of}
@@ -27,19 +27,19 @@ use Rattle.protocol_values.specs.declared.Cell.TheVariants.{Fresh}
 use Rattle.std.specs.Prelude.{if◌then◌else◌, unwrap_or}
 use Rattle.std.proofs.lemmas.Option.{same_Some}
 use Rattle.cell_table.specs.Closings.{AreInTurn, HandedOut, HasAll, IsHomeOf, IsOpenAt, MadeBy}
-use Rattle.protocol.specs.Growing.{GoesOn, GrowsTo}
-use Rattle.protocol.specs.Ledgers.{Ledger, ledger_of, IsLawful, binding_in, carried_in, course_in, joined_in, offer_in}
+use Rattle.protocol_ledger.specs.Growing.{GoesOn, GrowsTo}
+use Rattle.protocol_ledger.specs.Ledgers.{Ledger, ledger_of, IsLawful, binding_in, carried_in, course_in, joined_in, offer_in}
 use Rattle.protocol_ledger.proofs.Acting.{first_course_at, start_stays}
 use Rattle.protocol_ledger.proofs.Beginning.{first_carried, first_cell}
 use Rattle.protocol_ledger.proofs.LedgerLemmas.{binding_in_ledger, carried_in_ledger, course_in_ledger, kept_opening, lawful_ledger, joined_in_ledger, offer_in_ledger, opening_in_ledger}
 use Rattle.protocol_ledger.proofs.Onward.{grows-schedule}
-use Rattle.protocol.specs.Standing.{AreResults, OffersAs, Result, SomeStands, Stands}
+use Rattle.protocol_ledger.specs.Standing.{AreResults, OffersAs, Result, SomeStands, Stands}
 use Rattle.protocol_ledger.proofs.Standing.{stands-ledger}
 use Rattle.cell_table.specs.declared.view.Stage.TheVariants.{Resting}
 use Rattle.cell_table.specs.declared.view.View.{View}
 use Rattle.cell_table.specs.declared.view.Shape.{Shape}
 use Rattle.cell_table.specs.Sight.{Has, IsDraft, SeesOffer, SeesNoOffer}
-use Rattle.protocol.specs.Acting.{ActsAs, EndsAt, HasStart, acts_in, before_of}
+use Rattle.protocol_ledger.specs.Acting.{ActsAs, EndsAt, HasStart, acts_in, before_of}
 use Rattle.cell_table.specs.Views.{Knows, opening_in}
 use Rattle.cell_table.specs.Rule.{Keeps, in_order}
 use Rattle.cell_table.proofs.Allowing.{sized}

@@ -14,11 +14,11 @@ use Rattle.protocol_values.specs.declared.Row.{Row}
 use Rattle.protocol_values.specs.declared.Seat.{Seat}
 use Rattle.protocol_values.specs.declared.Step.TheVariants.{Bind, Finish}
 use Rattle.protocol_values.specs.Values.{joined_of}
-use Rattle.protocol.specs.Kept.{Kept}
-use Rattle.protocol.specs.Standing.{Stands}
-use Rattle.protocol.specs.Short.{short_course_place}
-use Rattle.protocol.specs.Tables.{Table, binding_at, course_at, is_fresh, is_taken, start_of}
-use Rattle.protocol.specs.Worlds.{Allowed, World, after_step, ended_at, with_course, with_table}
+use Rattle.protocol_ledger.specs.Kept.{Kept}
+use Rattle.protocol_ledger.specs.Standing.{Stands}
+use Rattle.protocol_ledger.specs.Short.{short_course_place}
+use Rattle.protocol_ledger.specs.Tables.{Table, binding_at, course_at, is_fresh, is_taken, start_of}
+use Rattle.protocol_ledger.specs.Worlds.{Allowed, World, after_step, ended_at, with_course, with_table}
 use Rattle.protocol_ledger.proofs.Keeping.{holder_same, rows_lived, threads_lived}
 use Rattle.protocol_ledger.proofs.Places.{word_lived}
 use Rattle.protocol_ledger.proofs.Readings.{binding_after_life, carried_after_life, cell_after_life, course_lived, course_lived_other}
@@ -28,7 +28,7 @@ use Rattle.cell_table.specs.declared.view.Stage.TheVariants.{Aside, Left, Restin
 use Rattle.cell_table.specs.declared.view.View.{View}
 use Rattle.cell_table.specs.Rule.{IsFinishing, Keeps}
 use Rattle.cell_table.specs.Sight.{Has, IsStand, SawEnded}
-use Rattle.protocol.specs.Acting.{EndsAt, HasStart}
+use Rattle.protocol_ledger.specs.Acting.{EndsAt, HasStart}
 use Rattle.cell_table.specs.Told.{finished}
 use Rattle.cell_table.specs.Views.{Knows, ended_thread, saw_course}
 use Rattle.protocol_ledger.proofs.Onward.{grows-step}

@@ -11,10 +11,10 @@ use Rattle.protocol_values.specs.declared.Row.{Row}
 use Rattle.protocol_values.specs.declared.Joined.{Joined}
 use Rattle.protocol_values.specs.declared.Cell.{Cell}
 use Rattle.protocol_values.specs.declared.Cell.TheVariants.{Fresh, Claimed, Synched, Taken}
-use Rattle.protocol.specs.Tables.{course_at, is_row, row_eq, is_fresh, is_taken, names, word_at, cell_at, joined_at, binding_at, bound_row, carried_at}
+use Rattle.protocol_ledger.specs.Tables.{course_at, is_row, row_eq, is_fresh, is_taken, names, word_at, cell_at, joined_at, binding_at, bound_row, carried_at}
 use Rattle.protocol_values.specs.Values.{next_row, joined_of}
-use Rattle.protocol.specs.Worlds.{IsAlive, StandsAt, World, first_row, handed_last, holder_at, last_holder, with_cell, with_table, with_holders, handed}
-use Rattle.protocol.specs.Kept.{Kept}
+use Rattle.protocol_ledger.specs.Worlds.{IsAlive, StandsAt, World, first_row, handed_last, holder_at, last_holder, with_cell, with_table, with_holders, handed}
+use Rattle.protocol_ledger.specs.Kept.{Kept}
 use Rattle.protocol_ledger.proofs.RowLemmas.{row_cases, row_ne, same_row, put, put_same, put_other}
 use Rattle.protocol_ledger.proofs.Linking.{cases_Option, taken_open}
 use Rattle.protocol_ledger.proofs.Readings.{row_of_open, row_after_cell, binding_after_cell, carried_after_cell, course_after_cell}
@@ -25,7 +25,7 @@ use Rattle.cell_table.specs.declared.view.Stage.{Stage}
 use Rattle.cell_table.specs.declared.view.Stage.TheVariants.{Resting, Claims, Joins, Aside, Left}
 use Rattle.cell_table.specs.declared.view.Seen.{Seen}
 use Rattle.cell_table.specs.Sight.{Has, IsStand, SawEnded, see_held}
-use Rattle.protocol.specs.Acting.{EndsAt, HasStart}
+use Rattle.protocol_ledger.specs.Acting.{EndsAt, HasStart}
 use Rattle.cell_table.specs.Views.{Knows, SeesEnd, Staged, at_stage, behind_last}
 use Rattle.cell_table.proofs.Courses.{ended_some, fresh_is, opened_before, taken_below}
 

@@ -9,12 +9,12 @@ use Rattle.atomic_table.proofs.Lists.{at_set}
 use Rattle.protocol_values.specs.declared.NackName.{NackName}
 use Rattle.protocol_values.specs.declared.Binding.{Binding}
 use Rattle.protocol_values.specs.declared.Row.{Row}
-use Rattle.protocol.specs.Tables.{row_eq}
-use Rattle.protocol.specs.Worlds.{World}
+use Rattle.protocol_ledger.specs.Tables.{row_eq}
+use Rattle.protocol_ledger.specs.Worlds.{World}
 use Rattle.protocol_ledger.proofs.RowLemmas.{row_eq-refl, row_eq-true}
 use Rattle.protocol_values.specs.declared.Offer.{Offer}
-use Rattle.protocol.specs.Standing.{AreResults, Result, Stands}
-use Rattle.protocol.specs.Ledgers.{ledger_of}
+use Rattle.protocol_ledger.specs.Standing.{AreResults, Result, Stands}
+use Rattle.protocol_ledger.specs.Ledgers.{ledger_of}
 use Rattle.cell_table.specs.declared.view.Seen.{Seen}
 use Rattle.cell_table.specs.declared.view.View.{View}
 use Rattle.cell_table.specs.declared.view.Shape.{Shape}

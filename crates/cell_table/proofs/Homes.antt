@@ -7,11 +7,11 @@ use lib.ListN.{get_elem?}
 use Rattle.protocol_values.specs.declared.Binding.{Binding}
 use Rattle.protocol_values.specs.declared.NackName.{NackName}
 use Rattle.protocol_values.specs.declared.Row.{Row}
-use Rattle.protocol.specs.Kept.{Kept}
-use Rattle.protocol.specs.Ledgers.{ledger_of}
-use Rattle.protocol.specs.Standing.{OffersAs, Stands}
-use Rattle.protocol.specs.Tables.{binding_at, bound_row, cell_at, is_fresh}
-use Rattle.protocol.specs.Worlds.{World, first_row}
+use Rattle.protocol_ledger.specs.Kept.{Kept}
+use Rattle.protocol_ledger.specs.Ledgers.{ledger_of}
+use Rattle.protocol_ledger.specs.Standing.{OffersAs, Stands}
+use Rattle.protocol_ledger.specs.Tables.{binding_at, bound_row, cell_at, is_fresh}
+use Rattle.protocol_ledger.specs.Worlds.{World, first_row}
 use Rattle.protocol_ledger.proofs.LedgerLemmas.{binding_in_ledger}
 use Rattle.cell_table.specs.declared.view.View.{View}
 use Rattle.cell_table.specs.Laws.{IsNackThere, StandsFor}

@@ -15,14 +15,14 @@ use Rattle.protocol_values.specs.declared.Row.{Row}
 use Rattle.protocol_values.specs.declared.Seat.{Seat}
 use Rattle.protocol_values.specs.declared.Step.{Step}
 use Rattle.protocol_values.specs.declared.Step.TheVariants.{Draft, Open, Look, Read, Claim, Yield, Join, Seal, Grant, Take, Bind, Start, Finish}
-use Rattle.protocol.specs.Growing.{GoesOn, GrowsTo}
-use Rattle.protocol.specs.Kept.{Kept}
-use Rattle.protocol.specs.Ledgers.{LivesAt, ledger_of}
-use Rattle.protocol.specs.Standing.{EachStands, OffersAs, OpenedAs, Result, SomeStands, Stands}
+use Rattle.protocol_ledger.specs.Growing.{GoesOn, GrowsTo}
+use Rattle.protocol_ledger.specs.Kept.{Kept}
+use Rattle.protocol_ledger.specs.Ledgers.{LivesAt, ledger_of}
+use Rattle.protocol_ledger.specs.Standing.{EachStands, OffersAs, OpenedAs, Result, SomeStands, Stands}
 use Rattle.protocol_values.specs.declared.Offer.{Offer}
-use Rattle.protocol.specs.Tables.{Table, cell_at, course_at, is_fresh, is_taken}
+use Rattle.protocol_ledger.specs.Tables.{Table, cell_at, course_at, is_fresh, is_taken}
 use Rattle.protocol_values.specs.Values.{next_row}
-use Rattle.protocol.specs.Worlds.{Allowed, World, after_step, first_row, holder_at}
+use Rattle.protocol_ledger.specs.Worlds.{Allowed, World, after_step, first_row, holder_at}
 use Rattle.protocol_ledger.proofs.Keeping.{is_held, taken_before}
 use Rattle.protocol_ledger.proofs.Onward.{grows-step, opens-step, taken-step}
 use Rattle.protocol_ledger.proofs.RowLemmas.{same_row}

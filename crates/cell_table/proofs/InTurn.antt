@@ -8,10 +8,10 @@ use Rattle.protocol_values.specs.declared.Cell.{Cell}
 use Rattle.protocol_values.specs.declared.Cell.TheVariants.{Claimed, Fresh, Synched, Taken, Waiting}
 use Rattle.protocol_values.specs.declared.Offer.{Offer}
 use Rattle.protocol_values.specs.declared.Row.{Row}
-use Rattle.protocol.specs.Kept.{Linked}
-use Rattle.protocol.specs.Tables.{Table, cell_at, is_fresh, is_taken, marks_at, offer_at}
-use Rattle.protocol.specs.Openings.{greatest}
-use Rattle.protocol.specs.Short.{Fits, rows_of, words_below}
+use Rattle.protocol_ledger.specs.Kept.{Linked}
+use Rattle.protocol_ledger.specs.Tables.{Table, cell_at, is_fresh, is_taken, marks_at, offer_at}
+use Rattle.protocol_ledger.specs.Openings.{greatest}
+use Rattle.protocol_ledger.specs.Short.{Fits, rows_of, words_below}
 use Rattle.protocol_ledger.proofs.Sheets.{missing_fresh}
 use Rattle.protocol_ledger.proofs.Readings.{count_fresh, offer_none}
 use Rattle.cell_table.specs.declared.view.Shape.{Shape}

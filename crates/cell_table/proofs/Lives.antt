@@ -1,5 +1,5 @@
 -- A look at a thread's life is admitted by the rule.
-use Rattle.protocol.specs.Openings.{greatest}
+use Rattle.protocol_ledger.specs.Openings.{greatest}
 use Rattle.std.proofs.Common.{◌≡◌, ◌≢◌, ◌<◌, ℕ, inl, inr, Option, slice_index, sym, refl, ap, ◌∙◌, subst, ⊎_elim, arith, List, slice_set}
 use Rattle.std.proofs.lemmas.List.{set-get_or}
 use mathlib.Core.Option.{none}
@@ -7,19 +7,19 @@ use Rattle.atomic_table.specs.Table.{Me, Allows, step, keeps, State}
 use Rattle.protocol_values.specs.declared.Course.{Course}
 use Rattle.protocol_values.specs.declared.Course.TheVariants.{Unstarted, Running, Ended}
 use Rattle.protocol_values.specs.declared.Row.{Row}
-use Rattle.protocol.specs.Kept.{Kept}
-use Rattle.protocol.specs.Ledgers.{LivesAt}
-use Rattle.protocol.specs.Standing.{Stands}
-use Rattle.protocol.specs.Tables.{Table, course_at, course_place}
-use Rattle.protocol.specs.Worlds.{World}
-use Rattle.protocol.specs.Short.{short_course_place, wide_table, widen}
+use Rattle.protocol_ledger.specs.Kept.{Kept}
+use Rattle.protocol_ledger.specs.Ledgers.{LivesAt}
+use Rattle.protocol_ledger.specs.Standing.{Stands}
+use Rattle.protocol_ledger.specs.Tables.{Table, course_at, course_place}
+use Rattle.protocol_ledger.specs.Worlds.{World}
+use Rattle.protocol_ledger.specs.Short.{short_course_place, wide_table, widen}
 use Rattle.protocol_ledger.proofs.Short.{set_course, short_course}
 use Rattle.cell_table.proofs.Shortness.{same_short_course}
 use Rattle.protocol_ledger.proofs.Readings.{course_inside}
 use Rattle.cell_table.specs.declared.view.View.{View}
 use Rattle.cell_table.specs.declared.view.Shape.{Shape}
 use Rattle.cell_table.specs.Sight.{Has, IsStand}
-use Rattle.protocol.specs.Acting.{EndsAt}
+use Rattle.protocol_ledger.specs.Acting.{EndsAt}
 use Rattle.cell_table.specs.Rule.{IsToBegin, Keeps}
 use Rattle.cell_table.specs.Told.{AgreesLife, course_read, looked_life}
 use Rattle.cell_table.specs.Views.{Knows, saw_course, opening_in}

@@ -13,10 +13,10 @@ use Rattle.protocol_values.specs.declared.Course.{Course}
 use Rattle.protocol_values.specs.declared.Course.TheVariants.{Unstarted, Running, Ended}
 use Rattle.protocol_values.specs.declared.Cell.{Cell}
 use Rattle.protocol_values.specs.declared.Cell.TheVariants.{Fresh, Waiting, Claimed, Synched, Taken}
-use Rattle.protocol.specs.Growing.{GoesOn}
-use Rattle.protocol.specs.Tables.{cell_at, course_at, is_taken, joined_at, last_stamp, marks_at, synched_of}
-use Rattle.protocol.specs.Worlds.{World, Allowed, HasEnded, Plays, after_step, ended_at, with_take}
-use Rattle.protocol.specs.Kept.{Kept}
+use Rattle.protocol_ledger.specs.Growing.{GoesOn}
+use Rattle.protocol_ledger.specs.Tables.{cell_at, course_at, is_taken, joined_at, last_stamp, marks_at, synched_of}
+use Rattle.protocol_ledger.specs.Worlds.{World, Allowed, HasEnded, Plays, after_step, ended_at, with_take}
+use Rattle.protocol_ledger.specs.Kept.{Kept}
 use Rattle.protocol_ledger.proofs.Keeping.{cells_taken, end_in_range, kept_schedule, stamp_in_range, stands_inside}
 use Rattle.protocol_ledger.proofs.Onward.{grows-step, taken-step}
 use Rattle.protocol_ledger.proofs.Readings.{course_lived}

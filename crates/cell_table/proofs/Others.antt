@@ -15,17 +15,17 @@ use Rattle.protocol_values.specs.Words.{cell_word, IsCellInRange}
 use Rattle.cell_table.specs.declared.view.View.{View}
 use Rattle.cell_table.specs.declared.view.Stage.{Stage}
 use Rattle.cell_table.specs.declared.view.Stage.TheVariants.{Resting, Claims, Joins, Aside, Left}
-use Rattle.protocol.specs.Tables.{course_at, Table, bound_row, is_row, row_eq, cell_at, is_fresh, joined_at, names, nack_says, word_at, binding_at, bound_by, carried_at, carried_by, is_taken}
+use Rattle.protocol_ledger.specs.Tables.{course_at, Table, bound_row, is_row, row_eq, cell_at, is_fresh, joined_at, names, nack_says, word_at, binding_at, bound_by, carried_at, carried_by, is_taken}
 use Rattle.protocol_values.specs.Values.{joined_of}
-use Rattle.protocol.specs.Worlds.{World, holder_at, with_word, with_cell, with_table, first_row}
-use Rattle.protocol.specs.Kept.{Kept}
+use Rattle.protocol_ledger.specs.Worlds.{World, holder_at, with_word, with_cell, with_table, first_row}
+use Rattle.protocol_ledger.specs.Kept.{Kept}
 use Rattle.protocol_ledger.proofs.Keeping.{held_row}
 use Rattle.protocol_ledger.proofs.RowLemmas.{row_cases, row_eq-false, row_eq-true, row_ne, put, put_same, put_other}
 use Rattle.protocol_ledger.proofs.Places.{word_other, is_row_after}
 use Rattle.protocol_ledger.proofs.Readings.{cell_after_cell, cell_after_word, row_of_open, binding_after_cell, binding_after_word, bound_is, carried_after_cell, carried_after_word, carried_is, course_after_cell, course_after_word}
 use Rattle.cell_table.specs.declared.view.Seen.{Seen}
 use Rattle.cell_table.specs.Sight.{Has, IsCounted, see_begun, see_bound, see_carried, see_course, see_word, without}
-use Rattle.protocol.specs.Acting.{EndsAt, HasStart}
+use Rattle.protocol_ledger.specs.Acting.{EndsAt, HasStart}
 use Rattle.cell_table.specs.Views.{IsClaimer, SeesEnd, Staged, Knows, behind_last, at_stage, turned, saw, saw_course, saw_nack, read_word, drafted_word}
 
 -- what is left after a word of (r, p) is gone, and what was there before

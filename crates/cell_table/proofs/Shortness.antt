@@ -4,7 +4,7 @@ use Rattle.std.proofs.lemmas.Bool.{cases_order}
 use Rattle.protocol_values.specs.declared.NackName.{NackName}
 use Rattle.protocol_values.specs.declared.Row.{Row}
 use Rattle.protocol_ledger.specs.declared.layout.Layout.{Layout}
-use Rattle.protocol.specs.Short.{row_len, rows_of, short_course_place, short_nack_place, short_place, thread_words, words_below}
+use Rattle.protocol_ledger.specs.Short.{row_len, rows_of, short_course_place, short_nack_place, short_place, thread_words, words_below}
 use Rattle.protocol_ledger.proofs.Places.{block_inside, same_block, same_rest}
 use Rattle.protocol_ledger.proofs.RowLemmas.{same_row}
 use Rattle.protocol_ledger.proofs.Short.{threads_apart}

@@ -12,11 +12,11 @@ use Rattle.protocol_values.specs.declared.Message.{Message}
 use Rattle.protocol_values.specs.declared.NackName.{NackName}
 use Rattle.protocol_values.specs.declared.Offer.{Offer}
 use Rattle.protocol_values.specs.declared.Row.{Row}
-use Rattle.protocol.specs.Kept.{Kept}
-use Rattle.protocol.specs.Ledgers.{IsLawful, Ledger, binding_in, joined_in, ledger_of, offer_in}
-use Rattle.protocol.specs.Standing.{AreResults, EachStands, IsLeft, OffersAs, Receives, Result, SomeStands, Stands, binding_of}
-use Rattle.protocol.specs.Tables.{Table, binding_at, bound_row, cell_at, is_fresh, joined_at, offer_at}
-use Rattle.protocol.specs.Worlds.{World, nack_of_row}
+use Rattle.protocol_ledger.specs.Kept.{Kept}
+use Rattle.protocol_ledger.specs.Ledgers.{IsLawful, Ledger, binding_in, joined_in, ledger_of, offer_in}
+use Rattle.protocol_ledger.specs.Standing.{AreResults, EachStands, IsLeft, OffersAs, Receives, Result, SomeStands, Stands, binding_of}
+use Rattle.protocol_ledger.specs.Tables.{Table, binding_at, bound_row, cell_at, is_fresh, joined_at, offer_at}
+use Rattle.protocol_ledger.specs.Worlds.{World, nack_of_row}
 use Rattle.protocol_ledger.proofs.Chosen.{chosen}
 use Rattle.protocol_ledger.proofs.LedgerLemmas.{binding_in_ledger, joined_in_ledger, lawful_ledger, offer_in_ledger}
 use Rattle.protocol_ledger.proofs.Linking.{some_parts}

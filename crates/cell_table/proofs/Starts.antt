@@ -18,15 +18,15 @@ use Rattle.protocol_values.specs.declared.Row.{Row}
 use Rattle.protocol_values.specs.declared.Seat.{Seat}
 use Rattle.protocol_values.specs.declared.Step.TheVariants.{Bind, Start}
 use Rattle.protocol_values.specs.Values.{joined_of}
-use Rattle.protocol.specs.Kept.{Kept}
-use Rattle.protocol.specs.Ledgers.{LivesAt}
-use Rattle.protocol.specs.Standing.{Stands}
-use Rattle.protocol.specs.Tables.{Table, binding_at, bound_row, cell_at, course_at, course_place, is_fresh, is_row, is_taken, joined_at, last_stamp, marks_at, start_of}
-use Rattle.protocol.specs.Worlds.{Allowed, World, after_step, begun, first_row, holder_at, last_holder, with_course, with_holders, with_table}
+use Rattle.protocol_ledger.specs.Kept.{Kept}
+use Rattle.protocol_ledger.specs.Ledgers.{LivesAt}
+use Rattle.protocol_ledger.specs.Standing.{Stands}
+use Rattle.protocol_ledger.specs.Tables.{Table, binding_at, bound_row, cell_at, course_at, course_place, is_fresh, is_row, is_taken, joined_at, last_stamp, marks_at, start_of}
+use Rattle.protocol_ledger.specs.Worlds.{Allowed, World, after_step, begun, first_row, holder_at, last_holder, with_course, with_holders, with_table}
 use Rattle.protocol_ledger.proofs.Keeping.{begun_held, begun_other, holder_same, rows_lived, stamp_in_range, threads_lived}
 use Rattle.protocol_ledger.proofs.Linking.{cases_Option, some_parts}
 use Rattle.protocol_ledger.proofs.Onward.{grows-step}
-use Rattle.protocol.specs.Short.{short_course_place}
+use Rattle.protocol_ledger.specs.Short.{short_course_place}
 use Rattle.protocol_ledger.proofs.Places.{row_from, word_lived}
 use Rattle.protocol_ledger.proofs.Short.{short_course}
 use Rattle.cell_table.proofs.Shortness.{same_short_course}
@@ -37,7 +37,7 @@ use Rattle.cell_table.specs.declared.view.Stage.TheVariants.{Aside, Left, Restin
 use Rattle.cell_table.specs.declared.view.View.{View}
 use Rattle.cell_table.specs.Rule.{IsStarting, IsToBegin, Keeps, Waits}
 use Rattle.cell_table.specs.Sight.{Has, HasSeenLast, IsStand, IsUnseen, SawEnded, see_start}
-use Rattle.protocol.specs.Acting.{EndsAt, HasStart}
+use Rattle.protocol_ledger.specs.Acting.{EndsAt, HasStart}
 use Rattle.cell_table.specs.Told.{AgreesLife, course_read, tried_start, turned_to}
 use Rattle.cell_table.specs.Views.{Knows, at_stage, behind_last, saw_course, started_thread, stood_at}
 use Rattle.cell_table.proofs.Courses.{fresh_is}

@@ -11,9 +11,9 @@ use Rattle.protocol_values.specs.declared.Row.{Row}
 use Rattle.protocol_values.specs.declared.Seat.{Seat}
 use Rattle.protocol_values.specs.declared.Step.{Step}
 use Rattle.protocol_values.specs.declared.Step.TheVariants.{Draft, Open, Look, Read, Claim, Yield, Join, Seal, Grant, Take, Bind, Start, Finish}
-use Rattle.protocol.specs.Kept.{Kept}
-use Rattle.protocol.specs.Tables.{all_rows, cause_at, cell_at, course_at, is_fresh, is_row, is_taken, joined_at, last_stamp, marks_at, row_eq, synched_of}
-use Rattle.protocol.specs.Worlds.{Allowed, Condition, World, after_step, ended_at, granted_by, joined_with, mirrored, nack_of_row, namer_at, sealed_by, with_cell, with_seal, with_take}
+use Rattle.protocol_ledger.specs.Kept.{Kept}
+use Rattle.protocol_ledger.specs.Tables.{all_rows, cause_at, cell_at, course_at, is_fresh, is_row, is_taken, joined_at, last_stamp, marks_at, row_eq, synched_of}
+use Rattle.protocol_ledger.specs.Worlds.{Allowed, Condition, World, after_step, ended_at, granted_by, joined_with, mirrored, nack_of_row, namer_at, sealed_by, with_cell, with_seal, with_take}
 use Rattle.protocol_ledger.proofs.Keeping.{grant_in_range, held_row, join_in_range, nack_of_thread, seal_in_range, sealed_is, sealing, synched_is, waits_unjoined}
 use Rattle.protocol_ledger.proofs.Linking.{some_parts}
 use Rattle.protocol_ledger.proofs.Naming.{namer_names}

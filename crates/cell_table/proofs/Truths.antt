@@ -8,16 +8,16 @@ use Rattle.protocol_values.specs.declared.NackName.{NackName}
 use Rattle.protocol_values.specs.declared.Row.{Row}
 use Rattle.protocol_values.specs.declared.Joined.{Joined}
 use Rattle.protocol_values.specs.declared.Cell.{Cell}
-use Rattle.protocol.specs.Tables.{Table, course_at, marks_at, start_of, is_fresh, cell_at, joined_at, offers_meet, offer_at, count_at, row_stamp, last_stamp, word_at, stands_alone, is_nack, bound_row, carried_at, carried_by, encloses, nack_by, cause_by, cause_of, cause_at, end_by, end_via, is_taken}
+use Rattle.protocol_ledger.specs.Tables.{Table, course_at, marks_at, start_of, is_fresh, cell_at, joined_at, offers_meet, offer_at, count_at, row_stamp, last_stamp, word_at, stands_alone, is_nack, bound_row, carried_at, carried_by, encloses, nack_by, cause_by, cause_of, cause_at, end_by, end_via, is_taken}
 use Rattle.protocol_values.specs.Values.{joined_of}
 use Rattle.protocol_values.specs.declared.Base.{Base}
 use Rattle.protocol_values.specs.declared.Base.TheVariants.{Send, Recv, Always, OnNack, OnEnd, Never}
 use Rattle.protocol_values.specs.declared.Cell.TheVariants.{Fresh}
 use Rattle.protocol_values.specs.declared.Course.{Course}
 use Rattle.protocol_values.specs.declared.Course.TheVariants.{Unstarted, Running, Ended}
-use Rattle.protocol.specs.Short.{HasWords}
-use Rattle.protocol.specs.Worlds.{World, joined_with, granted_by}
-use Rattle.protocol.specs.Kept.{IsFormed, Kept, IsSideOf}
+use Rattle.protocol_ledger.specs.Short.{HasWords}
+use Rattle.protocol_ledger.specs.Worlds.{World, joined_with, granted_by}
+use Rattle.protocol_ledger.specs.Kept.{IsFormed, Kept, IsSideOf}
 use Rattle.protocol_ledger.proofs.Readings.{count_open, row_of_open, offer_none, joined_ranged, nack_of_bound, binding_ranged, bound_uncarried, carried_is, says_outside}
 use Rattle.protocol_ledger.proofs.Places.{nack_inside, row_inside}
 use Rattle.protocol_ledger.proofs.Causes.{cause_alone, enabled_at_from}
@@ -28,7 +28,7 @@ use Rattle.cell_table.specs.declared.view.View.{View}
 use Rattle.cell_table.specs.declared.view.Seen.{Seen}
 use Rattle.protocol_ledger.specs.declared.layout.Layout.{Layout}
 use Rattle.cell_table.specs.Sight.{OpenHaveWords, Has, HaveDirection, HaveOffer, HasSeenLast, CanJoin, IsDraft, SawChosen, SeesNoOffer, SeesOffer, Coherent, next_stamp}
-use Rattle.protocol.specs.Acting.{EndsAt}
+use Rattle.protocol_ledger.specs.Acting.{EndsAt}
 use Rattle.cell_table.specs.Nacks.{CanGrant, SawCause, SawEnabled}
 use Rattle.cell_table.specs.Views.{Knows, behind_last}
 use Rattle.cell_table.specs.Told.{Agrees, AgreesWithItself}
@@ -208,11 +208,11 @@ module _ {M : Type 0} where
         taken (inr c) = let o = meeting_other _ _ (side c.0 c.1 (r, n) c.2 c.3).meets in below_count w.table r n o.0 o.1
 
     -- a row that is held is one of the table's
-    bound_inside : (r : Row) → Rattle.protocol.specs.Worlds.holder_at w r ≢ None → Rattle.protocol.specs.Tables.is_row w.table r ≡ true
+    bound_inside : (r : Row) → Rattle.protocol_ledger.specs.Worlds.holder_at w r ≢ None → Rattle.protocol_ledger.specs.Tables.is_row w.table r ≡ true
     bound_inside r held = ⊎_elim
-        (λ (e : Rattle.protocol.specs.Worlds.holder_at w r ≡ None). absurd (held e))
-        (λ (e : (seat : ℕ) × (Rattle.protocol.specs.Worlds.holder_at w r ≡ Some seat)). held_row w r e.0 e.1)
-        (cases_Option (Rattle.protocol.specs.Worlds.holder_at w r))
+        (λ (e : Rattle.protocol_ledger.specs.Worlds.holder_at w r ≡ None). absurd (held e))
+        (λ (e : (seat : ℕ) × (Rattle.protocol_ledger.specs.Worlds.holder_at w r ≡ Some seat)). held_row w r e.0 e.1)
+        (cases_Option (Rattle.protocol_ledger.specs.Worlds.holder_at w r))
 
     fresh_past : (r : Row) (g : ℕ) → EndsAt (course_at w.table r.thread) g → g ≤ r.sync → cell_at w.table r ≡ Fresh
     fresh_past r g e past = ⊎_elim

@@ -10,13 +10,13 @@ use Rattle.atomic_table.proofs.Lists.{at_set}
 use Rattle.protocol_values.specs.declared.Seat.{Seat}
 use Rattle.protocol_values.specs.declared.Step.{Step}
 use Rattle.protocol_values.specs.declared.Row.{Row}
-use Rattle.protocol.specs.Acting.{DoesAt, EndedAs, StartedAs, acts_in}
-use Rattle.protocol.specs.Growing.{GrowsTo}
-use Rattle.protocol.specs.Ledgers.{Ledger, ledger_of}
-use Rattle.protocol.specs.Standing.{AreResults, Result, Stands}
-use Rattle.protocol.specs.Tables.{Table, cell_at, is_fresh}
-use Rattle.protocol.specs.Openings.{HadEnded, HadStarted, Opening, greatest}
-use Rattle.protocol.specs.Worlds.{World, Allowed, after_step}
+use Rattle.protocol_ledger.specs.Acting.{DoesAt, EndedAs, StartedAs, acts_in}
+use Rattle.protocol_ledger.specs.Growing.{GrowsTo}
+use Rattle.protocol_ledger.specs.Ledgers.{Ledger, ledger_of}
+use Rattle.protocol_ledger.specs.Standing.{AreResults, Result, Stands}
+use Rattle.protocol_ledger.specs.Tables.{Table, cell_at, is_fresh}
+use Rattle.protocol_ledger.specs.Openings.{HadEnded, HadStarted, Opening, greatest}
+use Rattle.protocol_ledger.specs.Worlds.{World, Allowed, after_step}
 use Rattle.protocol_ledger.proofs.Acting.{ends-step, starts-step}
 use Rattle.protocol_ledger.proofs.Onward.{grows-step}
 use Rattle.protocol_ledger.proofs.Standing.{results-stay}
@@ -27,7 +27,7 @@ use Rattle.cell_table.specs.Sight.{Has}
 use Rattle.cell_table.specs.Told.{AgreesWithItself}
 use Rattle.cell_table.specs.Views.{Knows, did, opening_in}
 use Rattle.cell_table.proofs.Truths.{with_itself}
-use Rattle.protocol.specs.Kept.{Kept}
+use Rattle.protocol_ledger.specs.Kept.{Kept}
 use Rattle.protocol_ledger.proofs.Keeping.{kept_schedule}
 use Rattle.protocol_ledger.proofs.LedgerLemmas.{kept_opening}
 use Rattle.cell_table.specs.Rule.{Housed, Interleaves, IsActing, IsToBegin, Keeps, Move, at_seat, beginning, in_order, steps_by}
@@ -35,7 +35,7 @@ use Rattle.cell_table.proofs.Courses.{KeepsLives, plain_lives}
 use Rattle.protocol_ledger.specs.declared.layout.Layout.{Layout}
 use Rattle.protocol_ledger.proofs.Sheets.{missing_fresh, open_has_words}
 use Rattle.protocol_values.specs.declared.Cell.TheVariants.{Fresh}
-use Rattle.protocol.specs.Short.{HasWords, rows_of, wide_table}
+use Rattle.protocol_ledger.specs.Short.{HasWords, rows_of, wide_table}
 use Rattle.cell_table.proofs.Counts.{DraftsFew, few_step}
 use Rattle.cell_table.proofs.Housing.{LeavesHomes, housed_step, housed_view}
 use Rattle.cell_table.proofs.Leaving.{gathers_set}

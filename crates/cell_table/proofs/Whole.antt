@@ -9,9 +9,9 @@ use Rattle.protocol_values.specs.declared.Row.{Row}
 use Rattle.protocol_values.specs.declared.Seat.{Seat}
 use Rattle.protocol_values.specs.declared.Step.{Step}
 use Rattle.protocol_values.specs.declared.Step.TheVariants.{Open, Take}
-use Rattle.protocol.specs.Kept.{Kept}
-use Rattle.protocol.specs.Tables.{cell_at, is_fresh, is_taken}
-use Rattle.protocol.specs.Worlds.{Allowed, Plays, World, after_step}
+use Rattle.protocol_ledger.specs.Kept.{Kept}
+use Rattle.protocol_ledger.specs.Tables.{cell_at, is_fresh, is_taken}
+use Rattle.protocol_ledger.specs.Worlds.{Allowed, Plays, World, after_step}
 use Rattle.protocol_ledger.proofs.Keeping.{kept_schedule}
 use Rattle.protocol_ledger.proofs.Onward.{grows-step, opens-step}
 use Rattle.cell_table.specs.declared.view.Stage.TheVariants.{Aside, Left, Resting}

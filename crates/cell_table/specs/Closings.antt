@@ -6,11 +6,11 @@ use Rattle.protocol_values.specs.declared.Commit.{Commit}
 use Rattle.protocol_values.specs.declared.Offer.{Offer}
 use Rattle.protocol_values.specs.declared.Row.{Row}
 use Rattle.protocol_values.specs.declared.Step.{Step}
-use Rattle.protocol.specs.Ledgers.{HasCommit, Involves, Ledger, joined_in, offer_in}
-use Rattle.protocol.specs.Openings.{greatest}
-use Rattle.protocol.specs.Standing.{OffersAs, Stands}
-use Rattle.protocol.specs.Short.{wide_table}
-use Rattle.protocol.specs.Tables.{Table, cell_at, is_fresh, is_taken}
+use Rattle.protocol_ledger.specs.Ledgers.{HasCommit, Involves, Ledger, joined_in, offer_in}
+use Rattle.protocol_ledger.specs.Openings.{greatest}
+use Rattle.protocol_ledger.specs.Standing.{OffersAs, Stands}
+use Rattle.protocol_ledger.specs.Short.{wide_table}
+use Rattle.protocol_ledger.specs.Tables.{Table, cell_at, is_fresh, is_taken}
 use Rattle.cell_table.specs.declared.view.Shape.{Shape}
 use Rattle.cell_table.specs.declared.view.Stage.TheVariants.{Resting}
 use Rattle.cell_table.specs.declared.view.View.{View}

@@ -9,12 +9,12 @@ use Rattle.protocol_values.specs.declared.Course.TheVariants.{Unstarted}
 use Rattle.protocol_values.specs.declared.NackName.{NackName}
 use Rattle.protocol_values.specs.declared.Row.{Row}
 use Rattle.protocol_values.specs.declared.Step.TheVariants.{Finish, Start, Take}
-use Rattle.protocol.specs.Acting.{EachEnded, EachStarted, acts_in}
-use Rattle.protocol.specs.Ledgers.{ledger_of, IsLawful}
-use Rattle.protocol.specs.Standing.{AreResults, EachStands, OffersAs, Result, SomeStands, Stands}
-use Rattle.protocol.specs.Openings.{Begins, HadEnded, HadStarted, course_for, state_in, thread_in, word_for}
-use Rattle.protocol.specs.Tables.{Table, binding_at, bound_row, cell_at, course_at, is_fresh, is_nack, is_taken, joined_at, nack_says, names}
-use Rattle.protocol.specs.Worlds.{Plays, World, first_row}
+use Rattle.protocol_ledger.specs.Acting.{EachEnded, EachStarted, acts_in}
+use Rattle.protocol_ledger.specs.Ledgers.{ledger_of, IsLawful}
+use Rattle.protocol_ledger.specs.Standing.{AreResults, EachStands, OffersAs, Result, SomeStands, Stands}
+use Rattle.protocol_ledger.specs.Openings.{Begins, HadEnded, HadStarted, course_for, state_in, thread_in, word_for}
+use Rattle.protocol_ledger.specs.Tables.{Table, binding_at, bound_row, cell_at, course_at, is_fresh, is_nack, is_taken, joined_at, nack_says, names}
+use Rattle.protocol_ledger.specs.Worlds.{Plays, World, first_row}
 use Rattle.cell_table.specs.declared.view.Shape.{Shape}
 use Rattle.cell_table.specs.declared.view.View.{View}
 use Rattle.cell_table.specs.Rule.{HasActed, Interleaves, IsAt, IsHome, IsToBegin, Move, in_order, table_of}

@@ -8,7 +8,7 @@ use Rattle.protocol_values.specs.declared.Offer.{Offer}
 use Rattle.protocol_values.specs.declared.Row.{Row}
 use Rattle.protocol_values.specs.declared.Joined.{Joined}
 use Rattle.protocol_values.specs.Scopes.{has_scope}
-use Rattle.protocol.specs.Tables.{bound_row}
+use Rattle.protocol_ledger.specs.Tables.{bound_row}
 use Rattle.cell_table.specs.declared.view.Seen.{Seen}
 use Rattle.cell_table.specs.Sight.{Has, HaveOffer, IsBefore, SawEnded, SeesOffer, HasSeenLast, next_stamp}
 

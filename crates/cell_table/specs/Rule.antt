@@ -13,17 +13,17 @@ use Rattle.cell_table.specs.declared.view.View.{View}
 use Rattle.cell_table.specs.declared.view.Shape.{Shape}
 use Rattle.cell_table.specs.declared.view.Stage.TheVariants.{Aside, Left, Resting}
 use Rattle.protocol_values.specs.declared.Offer.{Offer}
-use Rattle.protocol.specs.Acting.{EachEnded, EachStarted, acts_in}
-use Rattle.protocol.specs.Ledgers.{Ledger, ledger_of}
-use Rattle.protocol.specs.Standing.{AreResults, EachStands, OffersAs, Result, SomeStands, Stands, binding_of}
+use Rattle.protocol_ledger.specs.Acting.{EachEnded, EachStarted, acts_in}
+use Rattle.protocol_ledger.specs.Ledgers.{Ledger, ledger_of}
+use Rattle.protocol_ledger.specs.Standing.{AreResults, EachStands, OffersAs, Result, SomeStands, Stands, binding_of}
 use Rattle.protocol_ledger.specs.declared.opening.Life.TheVariants.{Ended}
-use Rattle.protocol.specs.Openings.{Begins, HadEnded, HadStarted, IsOpening, Opening, greatest, is_running, start_opening, thread_in}
-use Rattle.protocol.specs.Worlds.{World, first_row, Plays, nack_of_row}
+use Rattle.protocol_ledger.specs.Openings.{Begins, HadEnded, HadStarted, IsOpening, Opening, greatest, is_running, start_opening, thread_in}
+use Rattle.protocol_ledger.specs.Worlds.{World, first_row, Plays, nack_of_row}
 use Rattle.cell_table.specs.declared.view.Seen.{Seen}
 use Rattle.cell_table.specs.Sight.{Has, IsDraft}
 use Rattle.cell_table.specs.Views.{Knows, RunsIn, opening_by, opening_in}
-use Rattle.protocol.specs.Short.{Fits, wide_table, words_below}
-use Rattle.protocol.specs.Tables.{Table, cell_at, course_at, is_fresh, is_row, is_taken, row_eq, word_at}
+use Rattle.protocol_ledger.specs.Short.{Fits, wide_table, words_below}
+use Rattle.protocol_ledger.specs.Tables.{Table, cell_at, course_at, is_fresh, is_row, is_taken, row_eq, word_at}
 use Rattle.protocol_values.specs.Words.{count_of}
 
 -- One change of the table: which pass made it, at which seat, by which step of the protocol.

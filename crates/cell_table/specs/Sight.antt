@@ -19,12 +19,12 @@ use Rattle.protocol_values.specs.declared.Cell.{Cell}
 use Rattle.protocol_values.specs.declared.Cell.TheVariants.{Fresh, Waiting, Claimed, Synched, Taken}
 use Rattle.cell_table.specs.declared.view.Seen.{Seen}
 use Rattle.protocol_ledger.specs.declared.layout.Layout.{Layout}
-use Rattle.protocol.specs.Openings.{Opening, state_in, word_for}
-use Rattle.protocol.specs.Short.{HasWords}
-use Rattle.protocol.specs.Tables.{carried_by, row_eq, is_fresh, is_taken, names, offers_meet, stands_alone}
+use Rattle.protocol_ledger.specs.Openings.{Opening, state_in, word_for}
+use Rattle.protocol_ledger.specs.Short.{HasWords}
+use Rattle.protocol_ledger.specs.Tables.{carried_by, row_eq, is_fresh, is_taken, names, offers_meet, stands_alone}
 use Rattle.protocol_values.specs.Values.{directions_meet, next_row, joined_of}
-use Rattle.protocol.specs.Acting.{EndsAt, HasStart}
-use Rattle.protocol.specs.Worlds.{first_row}
+use Rattle.protocol_ledger.specs.Acting.{EndsAt, HasStart}
+use Rattle.protocol_ledger.specs.Worlds.{first_row}
 
 -- x is in the list
 abbrev pub Has : {A : Type 0} → List A → A → Type 0

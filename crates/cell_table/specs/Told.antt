@@ -15,10 +15,10 @@ use Rattle.protocol_values.specs.declared.Cell.{Cell}
 use Rattle.protocol_values.specs.declared.Cell.TheVariants.{Fresh, Waiting, Claimed, Synched, Taken}
 use Rattle.protocol_values.specs.declared.Message.{Message}
 use Rattle.protocol_values.specs.declared.Offer.{Offer}
-use Rattle.protocol.specs.Standing.{IsLeft, Result, Stands}
+use Rattle.protocol_ledger.specs.Standing.{IsLeft, Result, Stands}
 use Rattle.protocol_ledger.specs.declared.layout.Layout.{Layout}
-use Rattle.protocol.specs.Short.{HasWords, row_len, short_course_place, short_nack_place, short_place}
-use Rattle.protocol.specs.Tables.{bound_row, is_taken}
+use Rattle.protocol_ledger.specs.Short.{HasWords, row_len, short_course_place, short_nack_place, short_place}
+use Rattle.protocol_ledger.specs.Tables.{bound_row, is_taken}
 use Rattle.protocol_values.specs.Values.{next_row}
 use Rattle.cell_table.specs.declared.view.View.{View}
 use Rattle.cell_table.specs.declared.view.Stage.TheVariants.{Resting, Claims, Joins}

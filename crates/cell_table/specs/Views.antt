@@ -17,12 +17,12 @@ use Rattle.cell_table.specs.declared.view.Shape.{Shape}
 use Rattle.cell_table.specs.declared.view.View.{View}
 use Rattle.cell_table.specs.declared.view.Stage.{Stage}
 use Rattle.cell_table.specs.declared.view.Stage.TheVariants.{Resting, Claims, Joins, Aside, Left}
-use Rattle.protocol.specs.Tables.{course_at, is_fresh, is_taken, names, word_at, cell_at, joined_at, binding_at, bound_row, carried_at}
-use Rattle.protocol.specs.Standing.{Result}
-use Rattle.protocol.specs.Openings.{Opening, is_running, opening_of, thread_in}
-use Rattle.protocol.specs.Worlds.{World, first_row, holder_at, last_holder}
+use Rattle.protocol_ledger.specs.Tables.{course_at, is_fresh, is_taken, names, word_at, cell_at, joined_at, binding_at, bound_row, carried_at}
+use Rattle.protocol_ledger.specs.Standing.{Result}
+use Rattle.protocol_ledger.specs.Openings.{Opening, is_running, opening_of, thread_in}
+use Rattle.protocol_ledger.specs.Worlds.{World, first_row, holder_at, last_holder}
 use Rattle.cell_table.specs.Sight.{Has, IsCounted, WasSettled, see_opened, see_cell, see_word, see_draft, see_next, see_bound, see_carried, see_course, see_start}
-use Rattle.protocol.specs.Acting.{EndsAt, HasStart}
+use Rattle.protocol_ledger.specs.Acting.{EndsAt, HasStart}
 
 -- the place behind the last row of a thread, in a table of so many rows
 abbrev pub behind_last : ℕ → ℕ → Row

@@ -1,14 +1,14 @@
 //! The table and its rule.
 
 ghost use Rattle.std.specs.Prelude.{◌≡◌, ◌<◌, ◌≤◌, ℕ, length};
-ghost use Rattle.protocol.specs.Openings.{IsOpening, greatest};
+ghost use Rattle.protocol_ledger.specs.Openings.{IsOpening, greatest};
 ghost use Rattle.std.proofs.Props.{props};
-ghost use Rattle.protocol.specs.Short.{AreStarts, Fits, row_len, rows_of, words_below};
+ghost use Rattle.protocol_ledger.specs.Short.{AreStarts, Fits, row_len, rows_of, words_below};
 ghost use Rattle.cell_table.specs.Views.{opening_in};
 
 use crate::view::{Shape, View};
 use atomic_table::{Table, TableRule};
-use protocol::{Resident, Starts};
+use protocol_ledger::{Resident, Starts};
 use std::alloc::Global;
 
 /// The rule of the cells.

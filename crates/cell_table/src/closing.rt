@@ -1,9 +1,9 @@
 //! The end of a table: its words become a ledger.
 
 ghost use Rattle.std.specs.Prelude.{◌≡◌, ◌+◌, ◌*◌, ◌<◌, ◌≤◌, ℕ, IfNone, IfSome, List, length, None, Some, slice_get};
-ghost use Rattle.protocol.specs.Openings.{HadEnded, HadStarted, greatest, state_in, word_for};
-ghost use Rattle.protocol.specs.Short.{AreStarts, Fits, HasWords, words_below};
-ghost use Rattle.protocol.specs.Tables.{carried_by, cell_at};
+ghost use Rattle.protocol_ledger.specs.Openings.{HadEnded, HadStarted, greatest, state_in, word_for};
+ghost use Rattle.protocol_ledger.specs.Short.{AreStarts, Fits, HasWords, words_below};
+ghost use Rattle.protocol_ledger.specs.Tables.{carried_by, cell_at};
 ghost use Rattle.cell_table.specs.Closings.{AreInTurn, HandsOut, HandsOutWaiting, HasAll, IsHandedOut, IsHomeOf, IsOpenAt, MadeBy, words_of};
 ghost use Rattle.std.specs.Slots.{slots_items, slots_len, IsFull};
 ghost use Rattle.protocol_values.specs.declared.Course.TheVariants.{Unstarted};
@@ -15,17 +15,18 @@ ghost use Rattle.protocol_values.specs.declared.Step.TheVariants.{Open, Take};
 ghost use Rattle.cell_table.specs.declared.view.Stage.TheVariants.{Resting};
 ghost use Rattle.protocol_values.specs.declared.NackName.{NackName};
 ghost use Rattle.protocol_values.specs.declared.Binding.{Binding};
-ghost use Rattle.protocol.specs.Ledgers.{IsLawful, binding_in, carried_in, course_in, joined_in, offer_in};
-ghost use Rattle.protocol.specs.Standing.{AreResults, Result};
+ghost use Rattle.protocol_ledger.specs.Ledgers.{IsLawful, binding_in, carried_in, course_in, joined_in, offer_in};
+ghost use Rattle.protocol_ledger.specs.Standing.{AreResults, Result};
 ghost use Rattle.cell_table.specs.Views.{opening_in};
 ghost use Rattle.cell_table.specs.Seats.{Sits};
 ghost use Rattle.cell_table.specs.Sight.{Has, IsDraft, SeesNoOffer, SeesOffer};
-ghost use Rattle.protocol.specs.Acting.{ActsAs, EndsAt, HasStart, acts_in, before_of};
+ghost use Rattle.protocol_ledger.specs.Acting.{ActsAs, EndsAt, HasStart, acts_in, before_of};
 
 use crate::board::Board;
 use crate::view::{Shape, View};
 use atomic_table::{Closed, Seat};
-use protocol::{Cell, Ledger, Resident, Row, Starts, unpack_cell};
+use protocol_values::{Cell, Row, unpack_cell};
+use protocol_ledger::{Ledger, Resident, Starts};
 use std::alloc::Global;
 
 impl<M: Resident + Drop> Board<M> {

@@ -24,7 +24,7 @@ pub use crate::board::Board;
 use crate::board::Law;
 pub use crate::view::{Seen, Shape, View};
 use atomic_table::TableRule;
-use protocol::Resident;
+use protocol_ledger::Resident;
 
 /// What the rule of the table, the very one that it has (`holds` of `Law`), says of any moment between
 /// two atomic steps, whatever threads call. `IsLawfulMoment` lists it.

@@ -3,7 +3,7 @@
 ghost use Rattle.std.specs.Prelude.{◌≡◌, ◌≢◌, ◌<◌, ◌≤◌, ◌↔◌, length, IsFalse, IsTrue};
 ghost use Rattle.protocol_values.specs.declared.Course.{Course};
 ghost use Rattle.protocol_values.specs.declared.Course.TheVariants.{Unstarted};
-ghost use Rattle.protocol.specs.Short.{short_course_place};
+ghost use Rattle.protocol_ledger.specs.Short.{short_course_place};
 ghost use Rattle.cell_table.specs.declared.view.Stage.TheVariants.{Resting};
 ghost use Rattle.cell_table.specs.Rule.{IsFinishing, IsStarting};
 ghost use Rattle.cell_table.specs.Told.{AgreesLife, course_read};
@@ -15,7 +15,7 @@ use crate::board::Board;
 use crate::plays::{Finish, LookLife, Stand, Start};
 use crate::view::View;
 use atomic_table::Seat;
-use protocol::{NACKS, Resident};
+use protocol_ledger::{NACKS, Resident};
 use protocol_values::{Course, Row, pack_course, unpack_course};
 
 impl<M: Resident> Board<M> {

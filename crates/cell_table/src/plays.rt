@@ -7,7 +7,7 @@ ghost use Rattle.cell_table.specs.Told.{claimed, drafted, finished, glanced, gra
 
 use crate::view::View;
 use atomic_table::{Join as JoinSeats, Play, Split};
-use protocol::Resident;
+use protocol_ledger::Resident;
 
 /// The row's cell is read: what was seen of it before stays, by `opened`, `joined` and `taken`, and only its holder
 /// has claimed it, by `calm`.

@@ -1,8 +1,8 @@
 //! How a table begins, and how its rows are dealt.
 
 ghost use Rattle.std.specs.Prelude.{◌≡◌, ◌+◌, ◌<◌, ◌≤◌, ℕ, [], IfOk, length};
-ghost use Rattle.protocol.specs.Openings.{AreFirstWords, IsOpening, greatest};
-ghost use Rattle.protocol.specs.Short.{Fits, rows_of, words_below};
+ghost use Rattle.protocol_ledger.specs.Openings.{AreFirstWords, IsOpening, greatest};
+ghost use Rattle.protocol_ledger.specs.Short.{Fits, rows_of, words_below};
 ghost use Rattle.cell_table.specs.Closings.{words_of};
 ghost use Rattle.cell_table.specs.Rule.{AreMachines, dealer, dealt_pass};
 ghost use Rattle.cell_table.specs.Views.{opening_in};
@@ -11,7 +11,7 @@ use crate::board::{Board, Words};
 use crate::plays::Deal;
 use crate::view::{Shape, View};
 use atomic_table::Seat;
-use protocol::Resident;
+use protocol_ledger::Resident;
 use std::alloc::{AllocError, Global};
 
 impl<M: Resident + Drop> Board<M> {

@@ -1,7 +1,7 @@
 //! One function for each atomic step, and what the table has.
 
 ghost use Rattle.std.specs.Prelude.{◌≡◌, ◌≢◌, ◌*◌, ◌+◌, ◌<◌, ◌≤◌, ◌↔◌, ℕ, List, ◌∷◌, length, slice_get, true, unwrap_or, IfOk, IfErr, IsTrue, None, Some};
-ghost use Rattle.protocol.specs.Standing.{Result};
+ghost use Rattle.protocol_ledger.specs.Standing.{Result};
 ghost use Rattle.protocol_values.specs.Words.{count_of, is_word_for, IsBindingInRange, IsJoinedInRange};
 ghost use Rattle.protocol_values.specs.declared.Binding.{Binding};
 ghost use Rattle.protocol_values.specs.declared.NackName.{NackName};
@@ -15,10 +15,10 @@ ghost use Rattle.protocol_values.specs.declared.Step.TheVariants.{
   Take as TakeStep,
   Yield as YieldStep,
 };
-ghost use Rattle.protocol.specs.Short.{HasWords, row_len, short_nack_place, short_place};
-ghost use Rattle.protocol.specs.Tables.{bound_row};
+ghost use Rattle.protocol_ledger.specs.Short.{HasWords, row_len, short_nack_place, short_place};
+ghost use Rattle.protocol_ledger.specs.Tables.{bound_row};
 ghost use Rattle.protocol_values.specs.Values.{next_row};
-ghost use Rattle.protocol.specs.Worlds.{mirrored};
+ghost use Rattle.protocol_ledger.specs.Worlds.{mirrored};
 ghost use Rattle.cell_table.specs.declared.view.Stage.TheVariants.{Resting, Claims, Joins};
 ghost use Rattle.atomic_table.specs.Table.{rest};
 ghost use Rattle.cell_table.specs.Rule.{IsReady};
@@ -34,7 +34,7 @@ use crate::plays::{
 };
 use crate::view::View;
 use atomic_table::Seat;
-use protocol::{NACKS, Resident};
+use protocol_ledger::{NACKS, Resident};
 use protocol_values::{
     Binding, Cell, Joined, NackName, NackWord, Row, pack_cell, pack_nack, read_cell, unpack_cell,
     unpack_nack,

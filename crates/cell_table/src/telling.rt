@@ -3,7 +3,7 @@
 ghost use Rattle.std.specs.Prelude.{◌≡◌};
 ghost use Rattle.protocol_values.specs.declared.Cell.TheVariants.{Fresh};
 ghost use Rattle.protocol_values.specs.declared.Row.{Row};
-ghost use Rattle.protocol.specs.Short.{HasWords};
+ghost use Rattle.protocol_ledger.specs.Short.{HasWords};
 ghost use Rattle.cell_table.specs.Told.{Agrees};
 ghost use Rattle.cell_table.specs.Rule.{heard_pass, left_pass, told_last, told_pass};
 ghost use Rattle.cell_table.specs.declared.view.Stage.TheVariants.{Resting};
@@ -14,7 +14,7 @@ use crate::board::Board;
 use crate::plays::{Glance, Leave, Tell};
 use crate::view::View;
 use atomic_table::Seat;
-use protocol::Resident;
+use protocol_ledger::Resident;
 
 impl<M: Resident> Board<M> {
     /// What `from` has seen, and what it drafted for its opened rows, is seen by `to` from now on.

@@ -1,7 +1,7 @@
 //! A table's size, and what a pass has seen. No value of `Stage`, `Seen` or `View` is made: contracts
 //! alone read them.
 
-use protocol::{Layout, Life, NackState, Opening};
+use protocol_ledger::{Layout, Life, NackState, Opening};
 use protocol_values::{Binding, Joined, Message, NackName, Row, Step};
 use std::collections::LinkedList;
 use std::snapshot::Snapshot;

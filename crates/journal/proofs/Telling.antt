@@ -11,8 +11,8 @@ use Rattle.journal_replay.specs.Lines.{RunTheirs}
 use Rattle.thread.specs.After.{Chosen}
 use Rattle.thread.specs.Machines.{Thread}
 use Rattle.protocol_values.specs.declared.Commit.{Commit}
-use Rattle.protocol.specs.Ledgers.{IsLawful, Ledger}
-use Rattle.protocol.specs.Openings.{Opening, thread_in}
+use Rattle.protocol_ledger.specs.Ledgers.{IsLawful, Ledger}
+use Rattle.protocol_ledger.specs.Openings.{Opening, thread_in}
 use Rattle.protocol_ledger.specs.declared.opening.Life.{Life}
 use Rattle.protocol_ledger.specs.declared.opening.Life.TheVariants.{Ended, Running, Unstarted}
 use Rattle.protocol_ledger.specs.declared.opening.NackState.{NackState}

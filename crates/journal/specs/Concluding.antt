@@ -3,8 +3,8 @@ use Rattle.std.specs.Prelude.{◌≡◌, ◌+◌, ◌*◌, ◌≤◌, if◌then�
 use Rattle.script_tree.specs.Processes.{Proc}
 use Rattle.script_tree.specs.declared.tree.Block.{Block as Tree}
 use Rattle.thread.specs.Machines.{Thread}
-use Rattle.protocol.specs.Ledgers.{Ledger}
-use Rattle.protocol.specs.Standing.{AreResults}
+use Rattle.protocol_ledger.specs.Ledgers.{Ledger}
+use Rattle.protocol_ledger.specs.Standing.{AreResults}
 use Rattle.protocol_ledger.specs.declared.opening.Life.{Life}
 use Rattle.protocol_ledger.specs.declared.opening.Life.TheVariants.{Unstarted, Running, Ended}
 use Rattle.protocol_ledger.specs.declared.opening.NackState.{NackState}

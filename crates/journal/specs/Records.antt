@@ -4,7 +4,7 @@ use Rattle.script_tree.specs.Processes.{Proc}
 use Rattle.protocol_values.specs.declared.Atom.{Atom}
 use Rattle.protocol_values.specs.declared.Commit.{Commit}
 use Rattle.protocol_values.specs.Commits.{IsInOrder}
-use Rattle.protocol.specs.Ledgers.{Ledger, commits_in}
+use Rattle.protocol_ledger.specs.Ledgers.{Ledger, commits_in}
 use Rattle.thread_stand.specs.declared.end.End.{End}
 use Rattle.journal_replay.specs.declared.state.State.{State}
 use Rattle.journal_replay.specs.declared.state.ReplayFault.{ReplayFault}

@@ -5,7 +5,7 @@ ghost use Rattle.journal_order.specs.Behind.{TellsRun};
 ghost use Rattle.journal_order.specs.Ledgers.{IsLedgerOf};
 ghost use Rattle.journal_replay.specs.Lines.{trees_in};
 ghost use Rattle.journal_replay.specs.Runs.{IsRun};
-ghost use Rattle.protocol.specs.Openings.{opening_of};
+ghost use Rattle.protocol_ledger.specs.Openings.{opening_of};
 ghost use Rattle.protocol_values.specs.Commits.{IsInOrder, most_rows};
 ghost use Rattle.protocol_ledger.specs.declared.opening.NackState.TheVariants.{Unbound};
 ghost use Rattle.script_tree.specs.Processes.{proc_of, tree_of};
@@ -14,8 +14,9 @@ ghost use Rattle.journal.specs.Concluding.{AreGone, AreStanding, EachKnownBy, Ru
 ghost use Rattle.journal.specs.Records.{Completes, CompletesOrdered, CompletesRun, IsOrdering};
 
 use crate::record::{Record, record_of};
-use journal_replay::{Known, gather, retrace};
-use protocol::{Ledger, Life, NackState, Opening};
+use thread_stand::Known;
+use journal_replay::{gather, retrace};
+use protocol_ledger::{Ledger, Life, NackState, Opening};
 use protocol_values::Commit;
 use script_tree::Proc;
 use std::alloc::{AllocError, Global};

@@ -22,4 +22,3 @@ mod record;
 pub use crate::concluding::{conclude, conclude_run, retrace_run};
 pub use crate::messages::received_from;
 pub use crate::record::{Record, complete};
-pub use journal_replay::{End, ReplayFault, State, is_placed, replay, settle};

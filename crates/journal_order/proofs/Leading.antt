@@ -27,12 +27,12 @@ use Rattle.protocol_values.specs.declared.Offer.{Offer}
 use Rattle.protocol_values.specs.declared.Row.{Row}
 use Rattle.protocol_values.specs.Commits.{stamp_of}
 use Rattle.protocol_values.specs.Scopes.{has_scope}
-use Rattle.protocol.specs.Acting as acting
-use Rattle.protocol.specs.Acting.{ActsAs, Before, DoesAt, EndsAt, HasStart, IsStampBehind, IsStarted, StartedBy, before_of}
-use Rattle.protocol.specs.Ledgers as ledgers
-use Rattle.protocol.specs.Ledgers.{CountsThread, Ledger, LivesAt, HasCommit, Involves, IsEnabled, IsEnabledHere, IsLawful, Takes, binding_in, carried_in, commits_in, course_in, has_row, joined_in, marks_in, no_entry, offer_in}
-use Rattle.protocol.specs.Openings.{IsDead}
-use Rattle.protocol.specs.Tables.{bound_row, number_of, start_of}
+use Rattle.protocol_ledger.specs.Acting as acting
+use Rattle.protocol_ledger.specs.Acting.{ActsAs, Before, DoesAt, EndsAt, HasStart, IsStampBehind, IsStarted, StartedBy, before_of}
+use Rattle.protocol_ledger.specs.Ledgers as ledgers
+use Rattle.protocol_ledger.specs.Ledgers.{CountsThread, Ledger, LivesAt, HasCommit, Involves, IsEnabled, IsEnabledHere, IsLawful, Takes, binding_in, carried_in, commits_in, course_in, has_row, joined_in, marks_in, no_entry, offer_in}
+use Rattle.protocol_ledger.specs.Openings.{IsDead}
+use Rattle.protocol_ledger.specs.Tables.{bound_row, number_of, start_of}
 use Rattle.protocol_ledger.proofs.Acting.{start_is}
 use Rattle.protocol_ledger.proofs.Closing.{carried_unbound}
 use Rattle.protocol_ledger.proofs.CommitLemmas.{commit_members}
@@ -51,7 +51,7 @@ use Rattle.journal_replay.proofs.Starting.{counts-earlier, counts-later, spawns-
 use Rattle.journal_replay.proofs.Standing.{config_of-more, counts, row-thread}
 use Rattle.journal_order.specs.Behind.{GoesOn, IsBehind, OfEach, RunsBehind, TellsEndsOn, TellsNacksOn, TellsResultsOn, TellsRowsOn, TellsStampsOn, TellsStartsOn, TellsThreadsOn, acts_behind, fired_before, numbered, renumbered, run_on}
 use Rattle.journal_order.specs.Laws.{IsOrderOf}
-use Rattle.protocol.specs.Standing.{AreResults, Gives, OffersAs, binding_of}
+use Rattle.protocol_ledger.specs.Standing.{AreResults, Gives, OffersAs, binding_of}
 use Rattle.journal_order.specs.Ledgers.{IsLedgerOf, nothing_before, LedgerIsRun, LedgersTell, ProcessSpawns, TellsNacks, TellsResults, TellsStamps, TellsStarts, fired_as}
 use Rattle.protocol_ledger.specs.declared.opening.NackState.TheVariants.{Dead, Enabled, Unbound, Unsettled}
 use Rattle.journal_order.proofs.Nacks.{fired-once}

@@ -9,7 +9,7 @@ use Rattle.std.proofs.lemmas.Option.{slice_get-get_or}
 use Rattle.protocol_values.specs.declared.Commit.{Commit}
 use Rattle.protocol_values.specs.declared.Row.{Row}
 use Rattle.protocol_values.specs.Commits.{first_row, first_thread, stamp_of}
-use Rattle.protocol.specs.Ledgers.{Ledger, HasCommit, Involves, IsLawful, commits_in, joined_in, offer_in, rows_in}
+use Rattle.protocol_ledger.specs.Ledgers.{Ledger, HasCommit, Involves, IsLawful, commits_in, joined_in, offer_in, rows_in}
 use Rattle.protocol_ledger.proofs.CommitLemmas.{commit_told}
 use Rattle.protocol_ledger.proofs.Ordering.{causal_ledger, first_involved}
 use Rattle.journal_order.specs.Laws.{IsOrderOf, OneLedgerOrder}

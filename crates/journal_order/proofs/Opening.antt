@@ -9,10 +9,10 @@ use Rattle.protocol_values.specs.declared.Course.{Course}
 use Rattle.protocol_values.specs.declared.Course.TheVariants as course
 use Rattle.protocol_values.specs.declared.NackName.{NackName}
 use Rattle.protocol_values.specs.declared.NackWord.TheVariants as word
-use Rattle.protocol.specs.Acting.{Before, EndsAt, HasStart, before_of}
-use Rattle.protocol.specs.Ledgers.{Ledger, binding_in, carried_in, course_in, nack_in}
-use Rattle.protocol.specs.Openings.{IsLastStamp, Opening, TellsEnd, TellsNack, life_of, state_in, thread_in, word_for}
-use Rattle.protocol.specs.Tables.{bound_by, carried_by, start_of}
+use Rattle.protocol_ledger.specs.Acting.{Before, EndsAt, HasStart, before_of}
+use Rattle.protocol_ledger.specs.Ledgers.{Ledger, binding_in, carried_in, course_in, nack_in}
+use Rattle.protocol_ledger.specs.Openings.{IsLastStamp, Opening, TellsEnd, TellsNack, life_of, state_in, thread_in, word_for}
+use Rattle.protocol_ledger.specs.Tables.{bound_by, carried_by, start_of}
 use Rattle.protocol_ledger.specs.declared.opening.Life.{Life}
 use Rattle.protocol_ledger.specs.declared.opening.Life.TheVariants.{Ended, Running, Unstarted}
 use Rattle.protocol_ledger.specs.declared.opening.NackState.{NackState}

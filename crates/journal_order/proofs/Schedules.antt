@@ -1,8 +1,8 @@
 -- The ledger of a schedule whose steps do as the processes do is one of the processes.
 use Rattle.std.proofs.Common.{◌≡◌, ℕ, refl, ◌∙◌, arith}
-use Rattle.protocol.specs.Ledgers.{ledger_of}
-use Rattle.protocol.specs.Tables.{Table}
-use Rattle.protocol.specs.Worlds.{start_world}
+use Rattle.protocol_ledger.specs.Ledgers.{ledger_of}
+use Rattle.protocol_ledger.specs.Tables.{Table}
+use Rattle.protocol_ledger.specs.Worlds.{start_world}
 use Rattle.protocol_ledger.proofs.LedgerLemmas.{kept_start, lawful_from_start}
 use Rattle.protocol_ledger.proofs.Onward.{grows-schedule}
 use Rattle.protocol_ledger.proofs.Acting.{schedule-acts}

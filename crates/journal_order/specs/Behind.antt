@@ -7,13 +7,13 @@ use Rattle.protocol_values.specs.declared.Commit.TheVariants.{Pair, Alone}
 use Rattle.protocol_values.specs.declared.NackName.{NackName}
 use Rattle.protocol_values.specs.declared.Row.{Row}
 use Rattle.protocol_values.specs.Commits.{stamp_of}
-use Rattle.protocol.specs.Acting.{Acts, ActsAs, Before, EndsAt, HasStart, before_of}
-use Rattle.protocol.specs.Ledgers.{HasCommit, Ledger, IsLawful, carried_in, course_in}
-use Rattle.protocol.specs.Openings.{HadEnded, HadStarted, IsLastStamp, Opening, TellsEnd, TellsNack, state_in, word_for}
-use Rattle.protocol.specs.Standing.{AreResults, Gives}
+use Rattle.protocol_ledger.specs.Acting.{Acts, ActsAs, Before, EndsAt, HasStart, before_of}
+use Rattle.protocol_ledger.specs.Ledgers.{HasCommit, Ledger, IsLawful, carried_in, course_in}
+use Rattle.protocol_ledger.specs.Openings.{HadEnded, HadStarted, IsLastStamp, Opening, TellsEnd, TellsNack, state_in, word_for}
+use Rattle.protocol_ledger.specs.Standing.{AreResults, Gives}
 use Rattle.protocol_ledger.specs.declared.opening.NackState.{NackState}
 use Rattle.protocol_ledger.specs.declared.opening.NackState.TheVariants.{Enabled, Unbound}
-use Rattle.protocol.specs.Tables.{carried_by}
+use Rattle.protocol_ledger.specs.Tables.{carried_by}
 use Rattle.journal_replay.specs.Runs.{Config, CountsOf, HasThread, IsGreatest, IsRun, Starts, config_of}
 use Rattle.journal_replay.specs.Standing.{KnowsNack}
 use Rattle.journal_replay.specs.Starting.{HasEnded}

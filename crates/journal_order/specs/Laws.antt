@@ -5,7 +5,7 @@ use Rattle.script_tree.specs.Processes.{Proc}
 use Rattle.thread.specs.After.{Chosen}
 use Rattle.protocol_values.specs.declared.Commit.{Commit}
 use Rattle.protocol_values.specs.Commits.{IsInOrder, stamp_of}
-use Rattle.protocol.specs.Ledgers.{Ledger, IsLawful, commits_in}
+use Rattle.protocol_ledger.specs.Ledgers.{Ledger, IsLawful, commits_in}
 use Rattle.journal_replay.specs.Runs.{HasRow, HasThread, IsOffering, IsRun, Starts, config_of}
 use Rattle.journal_replay.specs.Starting.{CountsForStart}
 use Rattle.journal_order.specs.Meetings.{Meets}

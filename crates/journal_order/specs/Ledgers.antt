@@ -10,13 +10,13 @@ use Rattle.protocol_values.specs.declared.NackName.{NackName}
 use Rattle.protocol_values.specs.declared.Offer.{Offer}
 use Rattle.protocol_values.specs.declared.Seat.{Seat}
 use Rattle.protocol_values.specs.declared.Step.{Step}
-use Rattle.protocol.specs.Acting.{Acts, ActsAs, Before, EachStepsAs, HasStart}
-use Rattle.protocol.specs.Ledgers.{Ledger, IsLawful, course_in, ledger_of}
-use Rattle.protocol.specs.Openings.{IsLastStamp, TellsNack}
-use Rattle.protocol.specs.Standing.{AreResults}
+use Rattle.protocol_ledger.specs.Acting.{Acts, ActsAs, Before, EachStepsAs, HasStart}
+use Rattle.protocol_ledger.specs.Ledgers.{Ledger, IsLawful, course_in, ledger_of}
+use Rattle.protocol_ledger.specs.Openings.{IsLastStamp, TellsNack}
+use Rattle.protocol_ledger.specs.Standing.{AreResults}
 use Rattle.protocol_ledger.specs.declared.opening.NackState.{NackState}
 use Rattle.protocol_ledger.specs.declared.opening.NackState.TheVariants.{Unbound, Unsettled, Dead, Enabled}
-use Rattle.protocol.specs.Worlds.{Plays, World, start_world, waits}
+use Rattle.protocol_ledger.specs.Worlds.{Plays, World, start_world, waits}
 use Rattle.journal_replay.specs.Runs.{CountsOf, IsGreatest, IsOffering, IsRun, Starts, config_of}
 use Rattle.journal_replay.specs.Standing.{KnowsNack}
 use Rattle.journal_replay.specs.Starting.{HasEnded, SpawnsAt}

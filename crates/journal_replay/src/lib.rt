@@ -23,4 +23,3 @@ pub use crate::placed::is_placed;
 pub use crate::runs::{replay, replay_lawful, restamp, settle};
 pub use crate::state::{ReplayFault, State};
 pub use crate::threads::spawners;
-pub use thread_stand::{End, Known};

@@ -9,7 +9,8 @@ ghost use Rattle.meet_scan.specs.Searches.{Grows};
 ghost use Rattle.meet_scan.specs.Steps.{OnlyLooks};
 
 use crate::queue::Queue;
-use cell::{Cells, Pass, Resident};
+use cell::{Cells, Pass};
+use protocol_ledger::Resident;
 use crossbeam_utils::CachePadded;
 use meet_queues::{Lane, LanePass, WaitingOffer};
 use std::alloc::{AllocError, Global};

@@ -13,7 +13,8 @@ ghost use Rattle.meet.specs.Wakings.{GrantsEach, IsBaseOf, IsWoken, Wakes};
 
 use crate::meet::{Meet, MeetPass};
 use crate::rooms::{Rooms, RoomsPass, is_still, take_from};
-use cell::{Cells, Grant, Pass, Resident, StepGate};
+use cell::{Cells, Grant, Pass, StepGate};
+use protocol_ledger::Resident;
 use meet_scan::saw_committed;
 use protocol_values::{Base, NackName, Row};
 use std::alloc::{AllocError, Global};

@@ -10,7 +10,8 @@ ghost use Rattle.meet_scan.specs.Searches.{FoundAt, Grows, LacksAt, Leaves, List
 ghost use Rattle.meet_scan.specs.Steps.{OnlyLooks, SearchMade, found_or_left};
 
 use crate::found::Found;
-use cell::{Cells, Grant, Pass, Resident};
+use cell::{Cells, Grant, Pass};
+use protocol_ledger::Resident;
 use protocol_values::{Cell, Direction, Row};
 
 /// The directions of the opened row's offers, in their order.

@@ -1,6 +1,6 @@
 //! How far a search is, on a terminal.
 
-use pcml_tool::Watch;
+use outcomes::Watch;
 use std::io::Write;
 use std::time::{Clock, Duration, Instant};
 

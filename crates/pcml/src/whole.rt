@@ -1,6 +1,7 @@
 //! What a person at a terminal is told behind a fault: why a file cannot be read, or what is wrong with a script.
 
-use pcml_tool::{FilesRead, Source, SystemFiles, files_read, first_fault};
+use pcml_tool::{FilesRead, files_read, first_fault};
+use pcml_files::{Source, SystemFiles};
 use std::fs::{self, Files};
 use std::io::{self, Read, Write};
 

@@ -21,8 +21,8 @@ use Rattle.protocol_values.specs.declared.Message.{Message}
 use Rattle.protocol_values.specs.declared.NackName.{NackName}
 use Rattle.protocol_values.specs.declared.Offer.{Offer}
 use Rattle.protocol_values.specs.declared.Row.{Row}
-use Rattle.protocol.specs.Ledgers.{IsLawful, joined_in}
-use Rattle.protocol.specs.Ledgers as ledgers
+use Rattle.protocol_ledger.specs.Ledgers.{IsLawful, joined_in}
+use Rattle.protocol_ledger.specs.Ledgers as ledgers
 use Rattle.protocol_values.specs.Commits.{IsInOrder}
 use Rattle.cell.specs.Calls.{HoldsAt}
 use Rattle.cell_table.specs.Sight.{Has}

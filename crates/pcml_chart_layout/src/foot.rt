@@ -11,7 +11,8 @@ ghost use Rattle.script.specs.Appending.{Adds};
 
 use crate::columns::Columns;
 use crate::seen::seen_length;
-use journal_replay::{End, State};
+use thread_stand::End;
+use journal_replay::State;
 use journal_text::push_atom;
 use pcml_why::push_offer;
 use protocol_values::{Atom, Offer};

@@ -13,18 +13,18 @@ use Rattle.protocol_values.specs.declared.Message.TheVariants.{One}
 use Rattle.protocol_values.specs.declared.Offer.{Offer}
 use Rattle.protocol_values.specs.declared.Row.{Row}
 use Rattle.protocol_values.specs.Commits.{stamp_of}
-use Rattle.protocol.specs.Ledgers.{Ledger, HasCommit, Offers, CountsFor, CountsThread, commits_in, course_in, commits_of, commit_by, commit_named, pair_by, told_at, told_by, tells, sends, joined_in, marks_in, offer_in, has_row, no_entry}
+use Rattle.protocol_ledger.specs.Ledgers.{Ledger, HasCommit, Offers, CountsFor, CountsThread, commits_in, course_in, commits_of, commit_by, commit_named, pair_by, told_at, told_by, tells, sends, joined_in, marks_in, offer_in, has_row, no_entry}
 use Rattle.std.specs.Prelude.{IsPermutation}
 use Rattle.std.specs.Fmt.{digits}
 use Rattle.std.specs.List.{All}
 use Rattle.std.proofs.lemmas.List.Elements.{All-cons, All-nil}
 use Rattle.std.proofs.lemmas.List.Sorted.{length_permutation, All-permutation}
-use Rattle.protocol.specs.Tables.{all_rows, start_of}
+use Rattle.protocol_ledger.specs.Tables.{all_rows, start_of}
 use Rattle.journal_text.specs.Names.{numbers}
 use Rattle.journal_text.specs.Texts.{commits_text}
 use Rattle.protocol_ledger.specs.declared.opening.Life.{Life}
 use Rattle.protocol_ledger.specs.declared.opening.Life.TheVariants.{Running, Unstarted}
-use Rattle.protocol.specs.Openings.{HadStarted, start_opening, thread_in}
+use Rattle.protocol_ledger.specs.Openings.{HadStarted, start_opening, thread_in}
 use Rattle.protocol_ledger.proofs.LedgerLemmas.{first_thread, nobody_waits}
 use Rattle.protocol_ledger.proofs.RowLemmas.{same_row}
 use Rattle.protocol_ledger.proofs.Linking.{some_inj}
@@ -56,7 +56,7 @@ module _ (value : ℕ) (l : Ledger) (h : HasTwoOffers value l) where
           let a = and_parts _ _ f in
           (subst (λ (k : ℕ). r.thread < k) h.threads (ltb-true r.thread l.threads a.0), subst (λ (k : ℕ). r.sync < k) h.rows (ltb-true r.sync l.rows a.1))
       by_case false f =
-          let none : None ≡ Some o = sym (ap (λ (b : Bool). slice_index_or (cond b (slice_index_or l.entries (Rattle.protocol.specs.Tables.number_of l.rows r) no_entry) no_entry).offers n None) f) ∙ e in
+          let none : None ≡ Some o = sym (ap (λ (b : Bool). slice_index_or (cond b (slice_index_or l.entries (Rattle.protocol_ledger.specs.Tables.number_of l.rows r) no_entry) no_entry).offers n None) f) ∙ e in
           cc
 
   one_of : (r : Row) (n : ℕ) (o : Offer) → offer_in l r n ≡ Some o → IsOneOf value r n o
@@ -225,7 +225,7 @@ module _ (value : ℕ) (l : Ledger) (h : HasTwoOffers value l) where
           → cond (tells (joined_in l) own partner) (commit_by (offer_in l) (first_row 1) j partner own) None ≡ Some c → ⊥
       by_partner j None None f p g = let bad : None ≡ Some c = g in cc
       by_partner j None (Some o) f p g =
-          let bad : None ≡ Some c = sym (ap (λ (z : Offer). Rattle.protocol.specs.Ledgers.alone_by (first_row 1) j z.base) (own_is j.own o f)) ∙ g in cc
+          let bad : None ≡ Some c = sym (ap (λ (z : Offer). Rattle.protocol_ledger.specs.Ledgers.alone_by (first_row 1) j z.base) (own_is j.own o f)) ∙ g in cc
       by_partner j (Some q) None f p g = nothing (tells (joined_in l) None (Some q)) g
         where
           nothing : (b : Bool) → cond b None None ≡ Some c → ⊥

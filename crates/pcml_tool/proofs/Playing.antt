@@ -1,6 +1,6 @@
 -- Schedules that are played: where they lead, and where the first refused step is.
 use Rattle.std.proofs.Common.{ℕ, ◌+◌, sym, ap, subst, ◌∙◌}
-use Rattle.protocol.specs.Worlds.{Plays, IsRefused}
+use Rattle.protocol_ledger.specs.Worlds.{Plays, IsRefused}
 use Rattle.protocol_ledger.proofs.Playing.{played_not_refused, one_refused}
 use Rattle.protocol_schedule.specs.Schedule.{Plan}
 use Rattle.pcml_tool.specs.Play.{IsPlayedOrFaulty, HasOneFirstRefused, start_of}

@@ -6,12 +6,12 @@ use Rattle.protocol_values.specs.declared.Commit.{Commit}
 use Rattle.journal_order.specs.Ledgers.{IsLedgerOf}
 use Rattle.journal.specs.Records.{Completes, CompletesRun}
 use Rattle.journal.specs.declared.record.Record.{Record}
-use Rattle.protocol.specs.Ledgers.{IsLawful, Ledger}
+use Rattle.protocol_ledger.specs.Ledgers.{IsLawful, Ledger}
 use Rattle.script.specs.Sources.{Script}
 use Rattle.script.specs.Spelling.{IsSpelled}
-use Rattle.runtime.specs.Headline.{TellsFreeRun, TellsMaximalRun}
+use Rattle.runtime_run.specs.Headline.{TellsFreeRun, TellsMaximalRun}
 use Rattle.runtime.specs.Played.{ArePlayedWithin}
-use Rattle.runtime.specs.Limits.{AreRows, AreSeasons, AreWorkers}
+use Rattle.runtime_run.specs.Limits.{AreRows, AreSeasons, AreWorkers}
 use Rattle.journal_text.proofs.Lining.{printed_has_names, run_is_read_again}
 use Rattle.pcml_tool.specs.Run.{AreEnds, TellsFreelyOf, TellsRecord, TellsRunOf}
 

@@ -33,7 +33,7 @@ use Rattle.pcml_tool.specs.declared.meeting.MeetFault.{MeetFault}
 use Rattle.pcml_tool.specs.Play.{ExplainsPlay, IsPlayed}
 use Rattle.pcml_texts.specs.Check.{IsChecked}
 use Rattle.runtime.specs.Played.{NeedsSeasons}
-use Rattle.runtime.specs.Limits.{AreRows, AreSeasons, AreWorkers}
+use Rattle.runtime_run.specs.Limits.{AreRows, AreSeasons, AreWorkers}
 use Rattle.runtime.specs.declared.seasons.SeasonFault.{SeasonFault}
 use Rattle.runtime.specs.declared.seasons.SeasonFault.TheVariants as seasons
 use Rattle.runtime_run.specs.declared.fault.RunFault.{RunFault}

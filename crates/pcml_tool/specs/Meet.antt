@@ -8,8 +8,8 @@ use Rattle.protocol_values.specs.declared.Base.TheVariants.{Send, Recv}
 use Rattle.protocol_values.specs.declared.Offer.{Offer}
 use Rattle.protocol_values.specs.declared.Commit.{Commit}
 use Rattle.protocol_values.specs.declared.Commit.TheVariants.{Pair}
-use Rattle.protocol.specs.Ledgers.{Ledger, IsLawful, course_in, offer_in}
-use Rattle.protocol.specs.Tables.{start_of}
+use Rattle.protocol_ledger.specs.Ledgers.{Ledger, IsLawful, course_in, offer_in}
+use Rattle.protocol_ledger.specs.Tables.{start_of}
 use Rattle.cell.specs.Calls.{Grid, PassView, IsPassOf, IsRowOf}
 use Rattle.cell_table.specs.Rule.{seen_nothing}
 use Rattle.cell_table.specs.Sight.{Has, IsDraft}

@@ -3,8 +3,8 @@ use Rattle.std.specs.Prelude.{◌≡◌, ℕ, ◌+◌, ◌-◌, ◌^◌, Option,
 use Rattle.std.specs.Fmt.{decimal}
 use Rattle.protocol_values.specs.declared.Commit.{Commit}
 use Rattle.protocol_values.specs.Commits.{IsInOrder}
-use Rattle.protocol.specs.Worlds.{World, Plays, IsRefused, start_world}
-use Rattle.protocol.specs.Ledgers.{Ledger, ledger_of, commits_in, pending_in}
+use Rattle.protocol_ledger.specs.Worlds.{World, Plays, IsRefused, start_world}
+use Rattle.protocol_ledger.specs.Ledgers.{Ledger, ledger_of, commits_in, pending_in}
 use Rattle.protocol_schedule.specs.declared.ReadFault.{ReadFault}
 use Rattle.protocol_schedule.specs.declared.ReadFault.TheVariants as reading
 use Rattle.protocol_schedule.specs.declared.Size.{Size}

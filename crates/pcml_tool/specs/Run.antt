@@ -3,7 +3,7 @@ use Rattle.std.specs.Prelude.{◌≡◌, ◌≢◌, ◌*◌, ◌<◌, ◌≤◌,
 use Rattle.std.specs.List.{AllByRecursion}
 use Rattle.std.specs.Fmt.{decimal}
 use Rattle.protocol_values.specs.declared.Commit.{Commit}
-use Rattle.protocol.specs.Ledgers.{IsLawful, Ledger, commits_in}
+use Rattle.protocol_ledger.specs.Ledgers.{IsLawful, Ledger, commits_in}
 use Rattle.script.specs.Sources.{Script}
 use Rattle.journal_text.specs.Journals.{HasAtom, Spells}
 use Rattle.journal_text.specs.Names.{names_of, named}
@@ -12,7 +12,7 @@ use Rattle.journal_order.specs.Ledgers.{IsLedgerOf}
 use Rattle.journal_replay.specs.Runs.{IsRun, config_of}
 use Rattle.thread_stand.specs.declared.end.End.{End}
 use Rattle.thread_stand.specs.declared.end.End.TheVariants.{Spent}
-use Rattle.runtime.specs.Headline.{IsFreeRun, IsMaximalRun}
+use Rattle.runtime_run.specs.Headline.{IsFreeRun, IsMaximalRun}
 use Rattle.runtime.specs.Played.{ArePlayedWithin}
 use Rattle.journal.specs.declared.record.Record.{Record}
 use Rattle.pcml_answers.specs.Standings.{Standing, AreStandings, StandAs, process_lines}

@@ -6,11 +6,13 @@ ghost use Rattle.pcml_files.specs.declared.source.SourceFault.TheVariants as fil
 ghost use Rattle.pcml_tool.specs.Faults.{number_of, number_of_file, number_of_run, number_of_script, number_of_seasons, status_of};
 ghost use Rattle.pcml_tool.specs.declared.fault.Fault.TheVariants as faults;
 
-use crate::{ChartFault, MeetFault, PlayFault};
+use crate::{MeetFault, PlayFault};
+use pcml_texts::ChartFault;
 use journal_text::JournalFault;
 use pcml_answers::{NamesFault, PrintsFault};
 use pcml_files::{SourceFault, Unwritten};
-use runtime::{RunFault, SeasonFault};
+use runtime_run::RunFault;
+use runtime::SeasonFault;
 use script::ScriptFault;
 use std::alloc::AllocError;
 use std::error::Error;

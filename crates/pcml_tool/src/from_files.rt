@@ -14,9 +14,9 @@ ghost use Rattle.pcml_files.specs.Files.{Fits};
 
 use crate::answer::{Advice, Answer, Verdict};
 use crate::fault::Fault;
-use crate::{
-    Replayed, chart_journal, check_text, next_journal, play_text, replay_text, stats_journal,
-    why_journal,
+use crate::play_text;
+use pcml_texts::{
+    Replayed, chart_journal, check_text, next_journal, replay_text, stats_journal, why_journal,
 };
 use pcml_files::{MOST_BYTES, Source};
 use pcml_request::{OfJournal, Question, all_rows};

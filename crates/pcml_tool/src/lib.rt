@@ -25,10 +25,3 @@ pub use crate::play::{PlayFault, play_laws, play_text};
 pub use crate::program::{BAD_WORDS, command, tell};
 pub use crate::run::{RunText, run_parts, run_seasons_parts, seasons_law};
 pub use crate::version::version_text;
-pub use outcomes::{Unwatched, Watch};
-pub use pcml_files::{Source, SourceFault, SystemFiles};
-pub use pcml_request::Request;
-pub use pcml_texts::{
-    ChartFault, Replayed, chart_journal, check_text, next_journal, replay_laws, replay_text,
-    stats_journal, why_journal, why_standing,
-};

@@ -4,13 +4,14 @@ ghost use Rattle.std.specs.Prelude.{◌≡◌, ℕ, [], ◌∷◌, IfOk, IfErr};
 ghost use Rattle.protocol_values.specs.Words.{IsOfferInRange};
 ghost use Rattle.protocol_values.specs.declared.Offer.{Offer};
 ghost use Rattle.cell.specs.Calls.{IsPassOf, IsRowOf, opening_at};
-ghost use Rattle.protocol.specs.Openings.{start_opening};
+ghost use Rattle.protocol_ledger.specs.Openings.{start_opening};
 ghost use Rattle.cell_table.specs.Sight.{Has};
 ghost use Rattle.pcml_tool.specs.Meet.{first_row, send_of, receive_offer, HasTakenPart, HasTwoOffers, IsReady, PrintsMeeting};
 
-use cell::{Bare, Cells, NoGate, Pass};
+use protocol_ledger::Bare;
+use cell::{Cells, NoGate, Pass};
 use journal_text::write_numbered;
-use protocol::Ledger;
+use protocol_ledger::Ledger;
 use protocol_values::{Atom, Base, Message, Offer, Row};
 use std::alloc::{AllocError, Global};
 use std::snapshot::Snapshot;

@@ -24,10 +24,9 @@ use crate::from_files::{
 };
 use crate::searching::{asked_of, keep_outcome};
 use crate::seeking::answer_sought;
-use crate::{
-    RunText, explain_text, meet_text, run_parts, run_seasons_parts, version_text, why_standing,
-};
-use journal_replay::End;
+use crate::{RunText, explain_text, meet_text, run_parts, run_seasons_parts, version_text};
+use pcml_texts::why_standing;
+use thread_stand::End;
 use outcomes::{Watch, has_unended};
 use pcml_answers::named_processes;
 use pcml_files::{MOST_BYTES, Source, emit};

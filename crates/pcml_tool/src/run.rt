@@ -9,7 +9,7 @@ ghost use Rattle.journal_replay.specs.Lines.{trees_in};
 ghost use Rattle.journal_replay.specs.Replays.{StandsAfter};
 ghost use Rattle.journal_text.specs.Journals.{HasLine};
 ghost use Rattle.journal_text.specs.Names.{names_of, named};
-ghost use Rattle.runtime.specs.Limits.{AreRows, AreSeasons, AreWorkers};
+ghost use Rattle.runtime_run.specs.Limits.{AreRows, AreSeasons, AreWorkers};
 ghost use Rattle.runtime.specs.Played.{NeedsSeasons};
 ghost use Rattle.runtime_run.specs.declared.fault.RunFault.TheVariants.{Workers, Rows};
 ghost use Rattle.runtime.specs.declared.seasons.SeasonFault.TheVariants as faults;
@@ -18,11 +18,13 @@ ghost use Rattle.pcml_tool.specs.Run.{tail_line, TellsFreelyOf, TellsRecord, Tel
 ghost use Rattle.pcml_answers.specs.Standings.{TellsStandings};
 
 use journal::Record;
-use journal_replay::{End, State};
+use thread_stand::End;
+use journal_replay::State;
 use journal_text::write_journal;
 use pcml_answers::standing_lines;
 use protocol_values::Commit;
-use runtime::{OpenGate, RunFault, SeasonFault, run, run_seasons};
+use runtime_run::{OpenGate, RunFault, run};
+use runtime::{SeasonFault, run_seasons};
 use script::Script;
 use std::alloc::{AllocError, Global};
 use std::sync::Wait;

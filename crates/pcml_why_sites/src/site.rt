@@ -11,7 +11,8 @@ ghost use Rattle.protocol_values.specs.Values.{is_on};
 ghost use Rattle.pcml_why_sites.specs.Sites.{AreSites};
 
 use crate::results::stand_after;
-use journal_replay::{End, State};
+use thread_stand::End;
+use journal_replay::State;
 use protocol_values::{Atom, Commit, NackName, Offer, Side};
 use script::Script;
 use script_tree::Proc;

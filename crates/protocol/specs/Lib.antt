@@ -1,13 +1,1 @@
-pub use Rattle.protocol_values.specs.Words
-pub use Rattle.protocol_ledger.specs.Tables
-pub use Rattle.protocol_ledger.specs.Worlds
-pub use Rattle.protocol_ledger.specs.Ledgers
-pub use Rattle.protocol_ledger.specs.Stamps
-pub use Rattle.protocol_ledger.specs.Kept
-pub use Rattle.protocol_ledger.specs.Growing
-pub use Rattle.protocol_ledger.specs.Standing
-pub use Rattle.protocol_ledger.specs.Acting
-pub use Rattle.protocol_ledger.specs.Openings
-pub use Rattle.protocol_ledger.specs.Short
-pub use Rattle.protocol_ledger.specs.Sheets
 pub mod States

@@ -14,16 +14,7 @@ mod state;
 mod world;
 
 pub use crate::world::{World, play};
-pub use protocol_ledger::{
-    Bare, LIVES, Layout, Ledger, Life, NACKS, NackState, OFFERS, Opening, ROW_LEN, Resident,
-    Starts, next_words, start_words,
-};
-pub use protocol_values::{
-    Atom, Base, Binding, Cause, Cell, Commit, Course, Direction, Head, Joined, Message, NackName,
-    NackWord, Offer, Row, Seat, Side, Step, is_word_for, pack_atom, pack_cell, pack_count,
-    pack_course, pack_head, pack_nack, pack_offer, unpack_atom, unpack_cell, unpack_count,
-    unpack_course, unpack_head, unpack_nack, unpack_offer,
-};
+use protocol_values::{Seat, Step};
 use thiserror::Error;
 
 /// What starting or playing a world can refuse.

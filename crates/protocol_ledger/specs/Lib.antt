@@ -1,4 +1,3 @@
-pub use Rattle.protocol_values.specs.Words
 pub mod Tables
 pub mod Worlds
 pub mod Ledgers

@@ -17,11 +17,11 @@ use Rattle.script_tree.specs.Processes.{Proc}
 use Rattle.script_tree.specs.Spawning.{AreSpawnedOnce, IsPlaced}
 use Rattle.thread.specs.After.{Chosen}
 use Rattle.thread.specs.Machines.{IsOpen, StartsAs, Thread}
-use Rattle.protocol.specs.Acting.{HasStart}
-use Rattle.protocol.specs.Ledgers.{HasCommit, IsLawful, Ledger, LivesAt, Takes, binding_in, carried_in, course_in, offer_in}
-use Rattle.protocol.specs.Openings.{Opening, TellsEnd, TellsNack, life_of, state_in, thread_in, word_for}
-use Rattle.protocol.specs.Standing.{AreResults, Result}
-use Rattle.protocol.specs.Tables.{bound_row, carried_by}
+use Rattle.protocol_ledger.specs.Acting.{HasStart}
+use Rattle.protocol_ledger.specs.Ledgers.{HasCommit, IsLawful, Ledger, LivesAt, Takes, binding_in, carried_in, course_in, offer_in}
+use Rattle.protocol_ledger.specs.Openings.{Opening, TellsEnd, TellsNack, life_of, state_in, thread_in, word_for}
+use Rattle.protocol_ledger.specs.Standing.{AreResults, Result}
+use Rattle.protocol_ledger.specs.Tables.{bound_row, carried_by}
 use Rattle.protocol_ledger.specs.declared.opening.Life.{Life}
 use Rattle.protocol_ledger.specs.declared.opening.Life.TheVariants as life
 use Rattle.protocol_ledger.specs.declared.opening.NackState.{NackState}

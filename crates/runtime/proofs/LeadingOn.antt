@@ -18,9 +18,9 @@ use Rattle.script_tree.specs.Processes.{Proc}
 use Rattle.script_tree.specs.Spawning.{AreSpawnedOnce}
 use Rattle.thread.specs.After.{Chosen}
 use Rattle.thread.specs.Machines.{Broken, HasStopped, IsAfterAt, IsOpen, Open, Over, Phase, Ready, Stuck, Thread, said_in}
-use Rattle.protocol.specs.Acting.{ActsAs, before_of}
-use Rattle.protocol.specs.Ledgers.{HasCommit, Ledger, Takes}
-use Rattle.protocol.specs.Openings.{HadEnded, HadStarted, IsOpening, Opening, greatest, opening_of, thread_in}
+use Rattle.protocol_ledger.specs.Acting.{ActsAs, before_of}
+use Rattle.protocol_ledger.specs.Ledgers.{HasCommit, Ledger, Takes}
+use Rattle.protocol_ledger.specs.Openings.{HadEnded, HadStarted, IsOpening, Opening, greatest, opening_of, thread_in}
 use Rattle.protocol_ledger.specs.declared.opening.Life.{Life}
 use Rattle.protocol_ledger.specs.declared.opening.Life.TheVariants as life
 use Rattle.protocol_ledger.proofs.Beginning.{thread_below}

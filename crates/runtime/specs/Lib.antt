@@ -1,8 +1,3 @@
-pub use Rattle.runtime_run.specs.Headline
-pub use Rattle.runtime_run.specs.Limits
-pub use Rattle.runtime_run.specs.Machines
-pub use Rattle.runtime_run.specs.Syncs
-pub use Rattle.runtime_run.specs.Workers
 pub mod Between
 pub mod Played
 pub mod Season

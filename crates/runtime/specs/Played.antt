@@ -2,9 +2,9 @@
 use Rattle.std.specs.Prelude.{◌≡◌, ◌⊎◌, ◌≤◌, ◌+◌, ◌*◌, ℕ, List, [], Some, length, slice_get}
 use Rattle.protocol_values.specs.declared.Commit.{Commit}
 use Rattle.script_tree.specs.Processes.{Proc}
-use Rattle.protocol.specs.Acting.{before_of}
-use Rattle.protocol.specs.Ledgers.{Ledger}
-use Rattle.protocol.specs.Openings.{Opening}
+use Rattle.protocol_ledger.specs.Acting.{before_of}
+use Rattle.protocol_ledger.specs.Ledgers.{Ledger}
+use Rattle.protocol_ledger.specs.Openings.{Opening}
 use Rattle.protocol_values.specs.declared.Offer.{Offer}
 use Rattle.thread_stand.specs.declared.end.End.{End}
 use Rattle.thread_stand.specs.declared.end.End.TheVariants.{Spent}

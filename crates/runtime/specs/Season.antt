@@ -4,10 +4,10 @@ use Rattle.protocol_values.specs.declared.Commit.{Commit}
 use Rattle.protocol_values.specs.declared.NackName.{NackName}
 use Rattle.script_tree.specs.Processes.{Proc}
 use Rattle.script_tree.specs.declared.tree.Block.{Block as Tree}
-use Rattle.protocol.specs.Acting.{ActsAs, HasStart, acts_in, before_of}
-use Rattle.protocol.specs.Ledgers.{HasCommit, IsLawful, Ledger, carried_in, course_in}
-use Rattle.protocol.specs.Openings.{HadStarted, LeadsOn, Opening, TellsEnd, greatest, opening_of, state_in, thread_in, word_for}
-use Rattle.protocol.specs.Tables.{carried_by}
+use Rattle.protocol_ledger.specs.Acting.{ActsAs, HasStart, acts_in, before_of}
+use Rattle.protocol_ledger.specs.Ledgers.{HasCommit, IsLawful, Ledger, carried_in, course_in}
+use Rattle.protocol_ledger.specs.Openings.{HadStarted, LeadsOn, Opening, TellsEnd, greatest, opening_of, state_in, thread_in, word_for}
+use Rattle.protocol_ledger.specs.Tables.{carried_by}
 use Rattle.protocol_ledger.specs.declared.opening.Life.TheVariants.{Unstarted}
 use Rattle.cell.specs.Calls.{GridOf, IsNackOf, opening_at}
 use Rattle.cell_table.specs.Sight.{WasSettled}

@@ -6,6 +6,3 @@ mod season;
 mod seasons;
 
 pub use crate::seasons::{SeasonFault, run_seasons, run_seasons_gated};
-pub use meet_queues::{Entry, Hand, Lane, LanePass, Ready, ReadyEnd, WaitingOffer};
-pub use runtime_run::{OpenGate, RunFault, run, run_gated, work, work_with_machines};
-pub use runtime_worker::Gate;

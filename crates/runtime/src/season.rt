@@ -12,7 +12,7 @@ use crate::between::{
     add_renumbered, are_spent, catch_up_all, counts_of, go_on_all, keep_all, none_each,
 };
 use cell::{Cells, Pass, StepGate};
-use protocol::{Ledger, Opening};
+use protocol_ledger::{Ledger, Opening};
 use protocol_values::Commit;
 use runtime_run::{first_machines, later, layout_for, work_table};
 use runtime_worker::{Gate, Halt, Suspended};

@@ -6,10 +6,10 @@ use Rattle.script_tree.specs.Spawning.{AreSpawnedOnce}
 use Rattle.script_tree.specs.Trees.{block_of}
 use Rattle.thread.specs.After.{Chosen, after}
 use Rattle.thread.specs.Machines.{Broken, IsAfterAt, Open, Over, Phase, Ready, Stuck, Thread}
-use Rattle.protocol.specs.Acting.{ActsAs, Before, IsStarted, StartedBefore, StartedBy, acts_in, before_of}
-use Rattle.protocol.specs.Ledgers.{IsLawful, Ledger, ledger_of}
-use Rattle.protocol.specs.Openings.{HadStarted, start_opening}
-use Rattle.protocol.specs.Worlds.{start_world, waits}
+use Rattle.protocol_ledger.specs.Acting.{ActsAs, Before, IsStarted, StartedBefore, StartedBy, acts_in, before_of}
+use Rattle.protocol_ledger.specs.Ledgers.{IsLawful, Ledger, ledger_of}
+use Rattle.protocol_ledger.specs.Openings.{HadStarted, start_opening}
+use Rattle.protocol_ledger.specs.Worlds.{start_world, waits}
 use Rattle.protocol_ledger.proofs.Acting.{ends-first, first_started, first_unended, starts-first}
 use Rattle.protocol_ledger.proofs.LedgerLemmas.{kept_start, lawful_ledger, start_greatest}
 use Rattle.protocol_ledger.proofs.Standing.{stands-ledger, stands-start}

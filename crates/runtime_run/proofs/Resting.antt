@@ -8,8 +8,8 @@ use Rattle.std.specs.Option.{option_map}
 use Rattle.script_tree.specs.Processes.{Proc}
 use Rattle.thread.specs.After.{Chosen}
 use Rattle.thread.specs.Machines.{HasStopped, Thread}
-use Rattle.protocol.specs.Ledgers.{Ledger}
-use Rattle.protocol.specs.Standing.{AreResults}
+use Rattle.protocol_ledger.specs.Ledgers.{Ledger}
+use Rattle.protocol_ledger.specs.Standing.{AreResults}
 use Rattle.cell_table.specs.Closings.{HandedOut, HandsOut}
 use Rattle.cell_table.specs.Sight.{Has}
 use Rattle.cell.specs.Calls.{GridOf, IsPassOf, PassOf}

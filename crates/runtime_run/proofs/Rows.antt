@@ -7,7 +7,7 @@ use Rattle.script_tree.specs.Processes.{Proc}
 use Rattle.runtime_run.specs.Syncs.{AreRowsFor, BlockSyncsAtMost}
 use Rattle.protocol_values.specs.declared.Offer.{Offer}
 use Rattle.protocol_ledger.specs.declared.layout.Layout.{Layout}
-use Rattle.protocol.specs.Short.{rows_of}
+use Rattle.protocol_ledger.specs.Short.{rows_of}
 use Rattle.cell.specs.Calls.{GridOf}
 use Rattle.thread.specs.After.{Chosen}
 use Rattle.runtime_worker.specs.Machines.{AreFirst, StandsFor, SyncsHaveWords}

@@ -4,7 +4,7 @@ use Rattle.std.specs.Option.{option_map}
 use Rattle.std.proofs.lemmas.Option.{none-some, same_Some, slice_get-map}
 use Rattle.script_tree.specs.declared.tree.Block.{Block as Tree}
 use Rattle.thread.specs.Machines.{Thread}
-use Rattle.protocol.specs.Ledgers.{Ledger}
+use Rattle.protocol_ledger.specs.Ledgers.{Ledger}
 use Rattle.journal.specs.Concluding.{RunTrees}
 use Rattle.journal_replay.proofs.Lists.{slice_get-more}
 use Rattle.runtime_worker.specs.declared.resident.Suspended.{Suspended}

@@ -4,8 +4,8 @@ use Rattle.script_tree.specs.Processes.{Proc}
 use Rattle.script_tree.specs.Spawning.{has_bit, spawns_block}
 use Rattle.thread.specs.After.{Chosen}
 use Rattle.thread.specs.Machines.{HasStopped, Thread}
-use Rattle.protocol.specs.Ledgers.{Ledger}
-use Rattle.protocol.specs.Standing.{AreResults}
+use Rattle.protocol_ledger.specs.Ledgers.{Ledger}
+use Rattle.protocol_ledger.specs.Standing.{AreResults}
 use Rattle.runtime_worker.specs.declared.resident.Rest.{Rest}
 use Rattle.runtime_worker.specs.declared.resident.Suspended.{Suspended}
 use Rattle.runtime_worker.specs.Machines.{IsMachineOf}

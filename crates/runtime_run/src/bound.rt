@@ -15,14 +15,14 @@
 //! does hang: a row has to have room for all that a machine offers at once.
 
 ghost use Rattle.std.specs.Prelude.{◌≡◌, ◌+◌, ◌<◌, ◌≤◌, ◌↔◌, ℕ, length, map, slice_index};
-ghost use Rattle.protocol.specs.Short.{Fits as IsLayoutFor};
+ghost use Rattle.protocol_ledger.specs.Short.{Fits as IsLayoutFor};
 ghost use Rattle.script_tree.specs.Limits.{base_count};
 ghost use Rattle.script_tree.specs.Processes.{proc_of};
 ghost use Rattle.script_tree.specs.Trees.{block_of, event_of, stmt_of, turn_of};
 ghost use Rattle.runtime_run.specs.Syncs.{AllSyncAtMost, AreRowsFor, BlockSyncsAtMost, EventSyncsAtMost, StmtSyncsAtMost, TurnSyncsAtMost};
 ghost use Rattle.runtime_worker.specs.Widths.{AllOfferAtMost, BodiesOfferAtMost, OffersAtMost, StmtOffersAtMost, TurnOffersAtMost};
 
-use protocol::Layout;
+use protocol_ledger::Layout;
 use script_tree::{Block, Event, Events, LoopBody, Proc, Stmt};
 
 /// The syncs of the statements.

@@ -7,7 +7,7 @@ use Rattle.std.proofs.lemmas.Bool.{cases_lt}
 use Rattle.std.proofs.lemmas.List.{get_or-drop, get_or_append_left, get_or_default, length-append, length-drop, take_all}
 use Rattle.std.proofs.lemmas.List.Elements.{Contains-append_cases, Contains-append_left, Contains-append_right}
 use Rattle.protocol_values.specs.declared.Row.{Row}
-use Rattle.protocol.specs.Worlds.{first_row}
+use Rattle.protocol_ledger.specs.Worlds.{first_row}
 use Rattle.cell_table.specs.declared.view.Seen.{Seen}
 use Rattle.cell_table.specs.Sight.{Has, see_begun}
 use Rattle.cell.specs.Attempts.{Started}

@@ -16,12 +16,12 @@ use Rattle.script_tree.specs.Spawning.{AreSpawnedOnce, IsPlaced}
 use Rattle.thread.specs.After.{Chosen}
 use Rattle.thread.specs.Machines.{Broken, IsOpen, Open, Over, Phase, Ready, StartsAs, Stuck, Tells, nacks_in, offers_in}
 use Rattle.thread.specs.declared.machine.Turn.TheVariants as turn
-use Rattle.protocol.specs.Standing.{binding_of}
+use Rattle.protocol_ledger.specs.Standing.{binding_of}
 use Rattle.protocol_ledger.specs.declared.opening.NackState.{NackState}
 use Rattle.protocol_ledger.specs.declared.opening.NackState.TheVariants.{Unbound}
-use Rattle.protocol.specs.Openings.{Opening, start_opening, state_in, word_for}
-use Rattle.protocol.specs.Tables.{bound_row, carried_by}
-use Rattle.protocol.specs.Worlds.{nack_of_row}
+use Rattle.protocol_ledger.specs.Openings.{Opening, start_opening, state_in, word_for}
+use Rattle.protocol_ledger.specs.Tables.{bound_row, carried_by}
+use Rattle.protocol_ledger.specs.Worlds.{nack_of_row}
 use Rattle.journal_replay.specs.Runs.{IsOffering}
 use Rattle.journal_order.specs.Laws.{HasScopeAt}
 use Rattle.journal_order.specs.Ledgers.{ProcessOffers}
@@ -29,7 +29,7 @@ use Rattle.journal_order.proofs.Nacks.{one-sync}
 use Rattle.cell.specs.Attempts.{Bound, BoundBefore}
 use Rattle.cell_table.specs.Told.{IsEarlier}
 use Rattle.protocol_ledger.specs.declared.layout.Layout.{Layout}
-use Rattle.protocol.specs.Short.{even, rows_of}
+use Rattle.protocol_ledger.specs.Short.{even, rows_of}
 use Rattle.protocol_ledger.proofs.Short.{even_rows}
 use Rattle.cell.specs.Calls.{GridOf, Holds, PassOf, opening_at}
 use Rattle.cell_table.specs.declared.view.Seen.{Seen}

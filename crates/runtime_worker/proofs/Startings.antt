@@ -6,8 +6,8 @@ use Rattle.protocol_values.specs.declared.NackName.{NackName}
 use Rattle.protocol_values.specs.declared.Row.{Row}
 use Rattle.thread.specs.After.{Chosen}
 use Rattle.thread.specs.Machines.{HasStopped}
-use Rattle.protocol.specs.Tables.{bound_row}
-use Rattle.protocol.specs.Worlds.{first_row}
+use Rattle.protocol_ledger.specs.Tables.{bound_row}
+use Rattle.protocol_ledger.specs.Worlds.{first_row}
 use Rattle.cell.specs.Attempts.{Finished, Started}
 use Rattle.cell.specs.Calls.{GridOf}
 use Rattle.cell_table.specs.declared.view.Seen.{Seen}

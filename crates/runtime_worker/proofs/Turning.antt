@@ -9,8 +9,8 @@ use Rattle.protocol_values.specs.declared.NackName.{NackName}
 use Rattle.protocol_values.specs.declared.Row.{Row}
 use Rattle.protocol_values.specs.Values.{next_row}
 use Rattle.script_tree.specs.Processes.{Proc}
-use Rattle.protocol.specs.Standing.{IsLeft}
-use Rattle.protocol.specs.Tables.{bound_row}
+use Rattle.protocol_ledger.specs.Standing.{IsLeft}
+use Rattle.protocol_ledger.specs.Tables.{bound_row}
 use Rattle.thread.specs.After.{Chosen}
 use Rattle.thread.specs.Machines.{HasStopped, IsAfter, IsOpen, SameProcess, StartsAs, Thread}
 use Rattle.thread.specs.Memories.{AddsNew}

@@ -11,10 +11,10 @@ use Rattle.script_tree.specs.Trees.{block_of}
 use Rattle.thread.specs.After.{Chosen, after}
 use Rattle.thread.specs.Machines.{HasStopped, IsAfter, IsOpen, Open, Over, Phase, SameProcess, StartsAs, Stuck, Thread}
 use Rattle.thread.specs.Ranges.{BaseIsIn, ResultsAreIn}
-use Rattle.protocol.specs.Short.{rows_of}
-use Rattle.protocol.specs.Standing.{IsLeft, Stands, binding_of}
-use Rattle.protocol.specs.Worlds.{first_row, nack_of_row}
-use Rattle.protocol.specs.Tables.{bound_row}
+use Rattle.protocol_ledger.specs.Short.{rows_of}
+use Rattle.protocol_ledger.specs.Standing.{IsLeft, Stands, binding_of}
+use Rattle.protocol_ledger.specs.Worlds.{first_row, nack_of_row}
+use Rattle.protocol_ledger.specs.Tables.{bound_row}
 use Rattle.journal_replay.specs.Starting.{spawned_in}
 use Rattle.journal_order.specs.Laws.{HasScopeAt}
 use Rattle.atomic_table.specs.Table.{rest}

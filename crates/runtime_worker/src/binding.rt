@@ -3,7 +3,7 @@
 ghost use Rattle.std.specs.Prelude.{◌≡◌, ◌≢◌, length};
 ghost use Rattle.protocol_values.specs.declared.Binding.{Binding};
 ghost use Rattle.protocol_values.specs.declared.NackName.{NackName};
-ghost use Rattle.protocol.specs.Tables.{bound_row};
+ghost use Rattle.protocol_ledger.specs.Tables.{bound_row};
 ghost use Rattle.thread.specs.Machines.{IsOpen, nacks_in};
 ghost use Rattle.cell.specs.Calls.{IsPassOf, IsRowOf};
 ghost use Rattle.cell_table.specs.Sight.{Has};

@@ -1,6 +1,6 @@
 //! A machine as it lies in the table's slots.
 
-use cell::Resident;
+use protocol_ledger::Resident;
 use thread::Machine;
 
 /// A suspended machine. It lies in a box, so what goes from hand to hand is a pointer.

@@ -11,13 +11,13 @@
 ghost use Rattle.std.specs.Prelude.{◌≡◌, ◌≢◌, ◌≤◌, [], ℕ, Contains, IfOk, IfSome, None, OnOk, length};
 ghost use Rattle.protocol_values.specs.declared.Binding.{Binding};
 ghost use Rattle.protocol_values.specs.declared.NackName.{NackName};
-ghost use Rattle.protocol.specs.Tables.{bound_row};
+ghost use Rattle.protocol_ledger.specs.Tables.{bound_row};
 ghost use Rattle.protocol_values.specs.Values.{next_row};
 ghost use Rattle.thread.specs.Machines.{HasStopped, IsOpen, Tells};
 ghost use Rattle.thread.specs.Ranges.{MessageIsIn};
 ghost use Rattle.cell.specs.Calls.{Holds, IsPassOf, KeepsResults, IsRowOf, IsStandOf};
 ghost use Rattle.cell_table.specs.Sight.{Has, IsStand, SawEnded};
-ghost use Rattle.protocol.specs.Worlds.{first_row};
+ghost use Rattle.protocol_ledger.specs.Worlds.{first_row};
 ghost use Rattle.runtime_worker.specs.Machines.{AreAtRest, AreToBegin, IsNow, IsTable, IsToResume, IsUntouched, KeepsRows, LeavesOthers, SpawnedSince};
 ghost use Rattle.runtime_worker.specs.Workers.{IsWorkerOf};
 
@@ -30,7 +30,7 @@ use crate::ranges::offers_fit;
 use crate::resident::{Rest, Suspended};
 use crate::worker::Worker;
 use cell::{Pass, StepGate};
-use meet::Found;
+use meet_scan::Found;
 use protocol_values::{Cell, Joined, Message, Row};
 use std::sync::Wait;
 use thread::Turn;

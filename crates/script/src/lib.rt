@@ -35,7 +35,6 @@ mod script;
 pub use fault::ScriptFault;
 pub use reading::{first_fault, parse};
 pub use script::Script;
-pub use script_tree::Proc;
 
 /// No bytes spell two scripts. A script that is written is read where no fault stands in it, and else its
 /// first fault is told; of any tokens the fault that is told is the one that is demanded, and no other is

@@ -1,6 +1,6 @@
 //! The files of a case file: those that it made so far, and else those beside it.
 
-use pcml_tool::{Source, SourceFault, SystemFiles};
+use pcml_files::{Source, SourceFault, SystemFiles};
 use std::alloc::{AllocError, Global};
 use std::fs::Files;
 

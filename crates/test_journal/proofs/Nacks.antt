@@ -4,9 +4,9 @@ use Rattle.std.proofs.lemmas.Option.{none-some, same_Some}
 use Rattle.protocol_values.specs.declared.Binding.{Binding}
 use Rattle.protocol_values.specs.declared.NackName.{NackName}
 use Rattle.protocol_values.specs.declared.Row.{Row}
-use Rattle.protocol.specs.Standing.{binding_of}
-use Rattle.protocol.specs.Tables.{bound_row}
-use Rattle.protocol.specs.Worlds.{nack_of_row}
+use Rattle.protocol_ledger.specs.Standing.{binding_of}
+use Rattle.protocol_ledger.specs.Tables.{bound_row}
+use Rattle.protocol_ledger.specs.Worlds.{nack_of_row}
 use Rattle.cell_table.specs.declared.view.Seen.{Seen}
 use Rattle.cell_table.specs.Sight.{Has, see_bound}
 use Rattle.test_journal.specs.Fetched.{HasNacks}

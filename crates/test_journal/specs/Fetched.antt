@@ -1,8 +1,8 @@
 -- What is known of a table of machines at a row that is to be opened.
 use Rattle.std.specs.Prelude.{◌≡◌, ◌⊎◌, ℕ, List, [], Some, length, slice_get}
 use Rattle.protocol_values.specs.declared.Row.{Row}
-use Rattle.protocol.specs.Standing.{Result, binding_of}
-use Rattle.protocol.specs.Worlds.{nack_of_row}
+use Rattle.protocol_ledger.specs.Standing.{Result, binding_of}
+use Rattle.protocol_ledger.specs.Worlds.{nack_of_row}
 use Rattle.cell_table.specs.declared.view.Seen.{Seen}
 use Rattle.cell_table.specs.Sight.{Has}
 

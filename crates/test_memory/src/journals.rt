@@ -7,7 +7,7 @@ use anyhow::Result;
 use journal::{Record, complete};
 use journal_replay::{ReplayFault, State, replay, settle};
 use journal_text::{JournalFault, read_journal, write_journal};
-use protocol::Ledger;
+use protocol_ledger::Ledger;
 use protocol_values::Commit;
 use script::Script;
 use std::alloc::Global;

@@ -5,7 +5,7 @@ use crate::journals::same_record;
 use crate::sweep::{Answer, MOST_AMOUNTS, Sweeper, Tally, judged};
 use anyhow::{Result, bail};
 use journal::Record;
-use runtime::{OpenGate, RunFault, run};
+use runtime_run::{OpenGate, RunFault, run};
 use script::Script;
 use std::sync::Wait;
 use std::thread::Threads;

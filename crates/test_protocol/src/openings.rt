@@ -3,7 +3,9 @@
 ghost use Rattle.std.specs.Prelude.{◌≤◌};
 
 use crate::tests::{Move, RECEIVER, SENDER, check_ledger, check_same, draft, ended_first, open};
-use protocol::*;
+use protocol::{ProtoFault, World, play};
+use protocol_ledger::{Ledger, Life, NackState, Opening};
+use protocol_values::{Cause, Commit, Message, NackName, Row, Seat, Step};
 use std::alloc::{AllocError, AllocGlobal, Global};
 use std::process::Abort;
 use std::test::Fail;

@@ -2,7 +2,9 @@
 
 ghost use Rattle.std.specs.Prelude.{◌≤◌};
 
-use protocol::*;
+use protocol::{ProtoFault, World, play};
+use protocol_ledger::Ledger;
+use protocol_values::{Atom, Cause, Commit, Message, Row, Seat, Step};
 use std::alloc::{AllocError, AllocGlobal, Global};
 use std::fmt::Debug;
 use std::process::Abort;

@@ -5,13 +5,13 @@ use Rattle.protocol_values.specs.declared.Binding.{Binding}
 use Rattle.protocol_values.specs.declared.Course.TheVariants.{Unstarted}
 use Rattle.protocol_values.specs.declared.NackName.{NackName}
 use Rattle.protocol_values.specs.declared.Row.{Row}
-use Rattle.protocol.specs.Tables.{Table, binding_at, bound_row, cell_at, course_at, is_fresh, is_nack, is_taken, joined_at, nack_says, names}
-use Rattle.protocol.specs.Openings.{HadEnded, HadStarted, Opening, greatest}
-use Rattle.protocol.specs.Worlds.{Plays, World, first_row}
-use Rattle.protocol.specs.Kept.{Kept}
-use Rattle.protocol.specs.Acting.{EachEnded, EachStarted, acts_in}
-use Rattle.protocol.specs.Ledgers.{ledger_of, IsLawful}
-use Rattle.protocol.specs.Standing.{AreResults, EachStands, SomeStands}
+use Rattle.protocol_ledger.specs.Tables.{Table, binding_at, bound_row, cell_at, course_at, is_fresh, is_nack, is_taken, joined_at, nack_says, names}
+use Rattle.protocol_ledger.specs.Openings.{HadEnded, HadStarted, Opening, greatest}
+use Rattle.protocol_ledger.specs.Worlds.{Plays, World, first_row}
+use Rattle.protocol_ledger.specs.Kept.{Kept}
+use Rattle.protocol_ledger.specs.Acting.{EachEnded, EachStarted, acts_in}
+use Rattle.protocol_ledger.specs.Ledgers.{ledger_of, IsLawful}
+use Rattle.protocol_ledger.specs.Standing.{AreResults, EachStands, SomeStands}
 use Rattle.protocol_ledger.proofs.Beginning.{first_binding, first_cell, first_course, first_says}
 use Rattle.protocol_ledger.proofs.LedgerLemmas.{kept_opening, lawful_ledger}
 use Rattle.cell_table.specs.Laws.{IsNackThere, StandsFor}

@@ -1,8 +1,8 @@
 //! The deepest scripts, on little stack.
 
-use journal_replay::End;
+use thread_stand::End;
 use protocol_values::Atom;
-use runtime::{OpenGate, RunFault, run};
+use runtime_run::{OpenGate, RunFault, run};
 use script::{ScriptFault, parse};
 use script_writer::write;
 use std::alloc::{AllocError, Global};

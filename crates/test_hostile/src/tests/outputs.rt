@@ -1,7 +1,9 @@
 //! Outputs that take little, fail or are interrupted.
 
 use crate::tests::{LINES, SERVER, check_same};
-use pcml_tool::{Source, SourceFault, Unwatched, command};
+use pcml_files::{Source, SourceFault};
+use outcomes::Unwatched;
+use pcml_tool::command;
 use std::alloc::{AllocError, Global};
 use std::io;
 use std::io::{ErrorKind, Write};

@@ -5,11 +5,11 @@ ghost use Rattle.protocol_values.specs.Values.{next_row};
 ghost use Rattle.protocol_values.specs.Words.{IsBaseInRange, IsOfferInRange};
 ghost use Rattle.protocol_values.specs.declared.Binding.{Binding};
 ghost use Rattle.protocol_values.specs.declared.NackName.{NackName};
-ghost use Rattle.protocol.specs.Tables.{bound_row};
+ghost use Rattle.protocol_ledger.specs.Tables.{bound_row};
 ghost use Rattle.cell.specs.Calls.{Holds, IsHousing, IsPassOf, IsRowOf};
 ghost use Rattle.cell_table.specs.Rule.{seen_nothing};
 ghost use Rattle.cell_table.specs.Sight.{AreOffers, Has, SawEnded};
-ghost use Rattle.protocol.specs.Worlds.{first_row};
+ghost use Rattle.protocol_ledger.specs.Worlds.{first_row};
 ghost use Rattle.test_journal.specs.Fetched.{HasNacks, HasResults};
 ghost use Rattle.test_journal.specs.declared.tests.suspended.Suspended.{Suspended};
 

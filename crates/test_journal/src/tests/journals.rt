@@ -4,8 +4,10 @@ ghost use Rattle.std.specs.Prelude.{◌≤◌};
 
 use super::{INDEPENDENT, ONE_SEND, check_same};
 use journal::{Record, complete, received_from};
-use journal_replay::{End, ReplayFault};
-use protocol::{Ledger, World, play};
+use thread_stand::End;
+use journal_replay::ReplayFault;
+use protocol_ledger::Ledger;
+use protocol::{World, play};
 use protocol_values::{Atom, Commit, Message, Row, Seat, Step};
 use script::parse;
 use std::alloc::Global;

@@ -3,7 +3,8 @@
 ghost use Rattle.std.specs.Prelude.{◌≤◌};
 
 use super::{ONE_SEND, SERVER, check_same};
-use journal_replay::{End, ReplayFault, State, is_placed, replay, settle};
+use thread_stand::End;
+use journal_replay::{ReplayFault, State, is_placed, replay, settle};
 use protocol_values::{Atom, Cause, Commit, Message, NackName, Row};
 use script::parse;
 use std::alloc::Global;

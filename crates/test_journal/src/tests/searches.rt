@@ -4,7 +4,8 @@ ghost use Rattle.std.specs.Prelude.{◌≤◌};
 ghost use Rattle.protocol_values.specs.Commits.{most_rows};
 
 use super::check_same;
-use journal_replay::{End, replay};
+use thread_stand::End;
+use journal_replay::replay;
 use outcomes::{Asked, Extent, Outcomes, Told, Unwatched, find_outcomes};
 use protocol_values::{Atom, Commit, Message, Row};
 use reachable::{AllFaults, AllLeft, Faults, Left, Printed, find_fault, find_left, find_printed};

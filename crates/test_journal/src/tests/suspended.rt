@@ -2,7 +2,7 @@
 
 ghost use Rattle.std.specs.Prelude.{◌≡◌, ◌<◌, true};
 
-use cell::Resident;
+use protocol_ledger::Resident;
 use script::Script;
 use std::alloc::Global;
 use std::test::Fail;

@@ -7,8 +7,10 @@ ghost use Rattle.cell_table.specs.Sight.{Has, SawEnded};
 ghost use Rattle.meet.specs.Rooms.{IsMeetPassOf};
 
 use super::table::{enter, receive, rooms, send, table_of_two};
-use cell::{Bare, Cells, NoGate, Pass, StepGate, YIELD};
-use meet::{Found, Meet, MeetPass};
+use protocol_ledger::Bare;
+use cell::{Cells, NoGate, Pass, StepGate, YIELD};
+use meet_scan::Found;
+use meet::{Meet, MeetPass};
 use protocol_values::Row;
 use std::alloc::AllocError;
 use std::cell::Cell as Kept;

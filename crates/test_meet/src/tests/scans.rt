@@ -4,11 +4,12 @@ ghost use Rattle.std.specs.Prelude.{◌≡◌, ◌<◌, ◌≤◌, []};
 ghost use Rattle.cell.specs.Calls.{IsPassOf};
 ghost use Rattle.cell_table.specs.Sight.{AreOffers, Has};
 ghost use Rattle.meet_directory.specs.Seats.{Sits};
-ghost use Rattle.protocol.specs.Worlds.{first_row};
+ghost use Rattle.protocol_ledger.specs.Worlds.{first_row};
 
 use super::table::{always, enter, receive, row, send, table_of_two};
 use super::threads::rooms;
-use cell::{Bare, Cells, NoGate, Pass};
+use protocol_ledger::Bare;
+use cell::{Cells, NoGate, Pass};
 use meet_directory::{Directory, DirectoryPass};
 use meet_scan::{Found, search_once};
 use protocol_values::Offer;

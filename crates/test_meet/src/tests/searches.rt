@@ -4,7 +4,7 @@ ghost use Rattle.std.specs.Prelude.{◌≤◌};
 
 use super::acts::{Act, Offers, Single, check_closed, play};
 use super::table::{rooms, table};
-use meet::Found;
+use meet_scan::Found;
 use protocol_values::{Atom, Message, Row};
 use std::alloc::AllocError;
 use std::process::Abort;

@@ -6,8 +6,10 @@ ghost use Rattle.cell_table.specs.Sight.{AreOffers, Has};
 ghost use Rattle.meet.specs.Rooms.{IsMeetPassOf};
 
 use super::table::{receive, rooms, send, table_of_all};
-use cell::{Bare, Cells, NoGate, Pass};
-use meet::{Found, Meet, MeetPass};
+use protocol_ledger::Bare;
+use cell::{Cells, NoGate, Pass};
+use meet_scan::Found;
+use meet::{Meet, MeetPass};
 use protocol_values::{Cell, Course, Offer, Row};
 use std::alloc::AllocError;
 use std::sync::Wait;

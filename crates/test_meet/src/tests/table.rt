@@ -5,10 +5,11 @@ ghost use Rattle.protocol_values.specs.Words.{IsOfferInRange};
 ghost use Rattle.cell.specs.Calls.{IsPassOf, IsRowOf, PassView};
 ghost use Rattle.cell_table.specs.Rule.{dealt_rows, seen_nothing};
 ghost use Rattle.cell_table.specs.Sight.{AreOffers, Has, SawEnded};
-ghost use Rattle.protocol.specs.Worlds.{first_row};
+ghost use Rattle.protocol_ledger.specs.Worlds.{first_row};
 ghost use Rattle.meet.specs.Rooms.{IsMeetPassOf};
 
-use cell::{Bare, Cells, Pass};
+use protocol_ledger::Bare;
+use cell::{Cells, Pass};
 use meet::{Meet, MeetPass};
 use protocol_values::{Atom, Base, Message, NackName, Offer, Row};
 use std::alloc::{AllocError, Global};

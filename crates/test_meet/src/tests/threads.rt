@@ -5,13 +5,15 @@ ghost use Rattle.std.specs.Prelude.{◌≡◌, [], IfOk};
 ghost use Rattle.protocol_values.specs.Words.{IsOfferInRange};
 ghost use Rattle.cell.specs.Calls.{IsPassOf, IsRowOf};
 ghost use Rattle.cell_table.specs.Sight.{Has};
-ghost use Rattle.protocol.specs.Worlds.{first_row};
+ghost use Rattle.protocol_ledger.specs.Worlds.{first_row};
 ghost use Rattle.meet.specs.Rooms.{IsMeetPassOf};
 
 use super::table::{NACK, cancelled, enter, joined, last, receive, row, send, table_of_two};
 use super::wakings::enter_bound;
-use cell::{Bare, Cells, NoGate, Pass};
-use meet::{Found, Meet, MeetPass};
+use protocol_ledger::Bare;
+use cell::{Cells, NoGate, Pass};
+use meet_scan::Found;
+use meet::{Meet, MeetPass};
 use protocol_values::Offer;
 use std::alloc::{AllocError, Global};
 use std::sync::Wait;

@@ -3,13 +3,14 @@
 ghost use Rattle.std.specs.Prelude.{◌≡◌, [], ◌∷◌};
 ghost use Rattle.cell.specs.Calls.{IsPassOf, IsRowOf};
 ghost use Rattle.cell_table.specs.Sight.{AreOffers, Has};
-ghost use Rattle.protocol.specs.Worlds.{first_row};
+ghost use Rattle.protocol_ledger.specs.Worlds.{first_row};
 
 use super::acts::{Act, Offers, Single};
 use super::searches::check_acts;
 use super::table::{NACK, always, enter, receive, row};
-use cell::{Bare, Cells, Pass};
-use meet::Found;
+use protocol_ledger::Bare;
+use cell::{Cells, Pass};
+use meet_scan::Found;
 use protocol_values::{Message, NackName, Offer, Row};
 use std::test::Fail;
 

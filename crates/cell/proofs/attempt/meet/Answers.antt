@@ -8,7 +8,7 @@ use Rattle.cell.specs.Attempts.{IsLifeNear, IsNear}
 use Rattle.cell_table.specs.Sight.{CanJoin, LearnsOf, SawCommitted}
 use Rattle.cell_table.specs.Told.{Agrees, joining, settled}
 use Rattle.protocol_values.specs.declared.Step.TheVariants.{Claim, Seal, Yield}
-use Rattle.protocol.specs.Worlds.{mirrored}
+use Rattle.protocol_ledger.specs.Worlds.{mirrored}
 use Rattle.cell_table.specs.Views.{did, saw, turned}
 use Rattle.cell.proofs.Meeting.{can_join_opened, claim_found, join_found, err_case, learns_met, learns_yield}
 use Rattle.cell.proofs.Learning.{learns_look, learns_wider, lives_wider}

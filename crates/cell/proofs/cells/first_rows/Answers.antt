@@ -1,5 +1,5 @@
 use Rattle.std.proofs.Common.{◌≡◌, ◌+◌, ◌∙◌, true, false, sym, subst}
-use Rattle.protocol.specs.Openings.{opening_of}
+use Rattle.protocol_ledger.specs.Openings.{opening_of}
 use Rattle.cell.specs.Flags.{AreFlags}
 use Rattle.cell.specs.declared.rows.RowSet.{RowSet}
 use Rattle.cell_table.specs.Rule.{dealt_from}

@@ -1,6 +1,6 @@
 -- The set has the first rows of the threads so far that fall to the pass.
 use Rattle.std.proofs.Common.{◌≡◌, ◌+◌}
-use Rattle.protocol.specs.Openings.{opening_of}
+use Rattle.protocol_ledger.specs.Openings.{opening_of}
 use Rattle.cell.specs.Flags.{AreFlags}
 use Rattle.cell_table.specs.Rule.{dealt_from}
 use Rattle.cell.proofs.cells.first_rows.Given as goal

@@ -1,4 +1,4 @@
-use Rattle.protocol.specs.Worlds.{nack_of_row}
+use Rattle.protocol_ledger.specs.Worlds.{nack_of_row}
 use Rattle.cell.proofs.Binding.{bound_before, bound_else}
 use Rattle.cell.proofs.nacks.bind.Goals as goal
 

@@ -3,7 +3,7 @@ use Rattle.std.proofs.lemmas.Bool.{true≢false}
 use Rattle.protocol_values.specs.declared.Joined.{Joined}
 use Rattle.protocol_values.specs.declared.Row.{Row}
 use Rattle.protocol_values.specs.Scopes.{has_scope}
-use Rattle.protocol.specs.Tables.{bound_row}
+use Rattle.protocol_ledger.specs.Tables.{bound_row}
 use Rattle.protocol_ledger.proofs.Linking.{some_inj}
 use Rattle.cell_table.specs.Nacks.{SawEnabled}
 use Rattle.cell_table.specs.Sight.{Has, Learns, SeesOffer}

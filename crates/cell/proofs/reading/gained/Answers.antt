@@ -1,7 +1,7 @@
 use Rattle.std.proofs.Common.{rules, ◌≡◌, ◌⊎◌, true, None, Some, inl, inr, refl}
 use Rattle.protocol_values.specs.declared.Offer.{Offer}
 use Rattle.protocol_values.specs.declared.Row.{Row}
-use Rattle.protocol.specs.Tables.{names}
+use Rattle.protocol_ledger.specs.Tables.{names}
 use Rattle.cell_table.specs.Sight.{Has, HaveOffer, LackOffer}
 use Rattle.cell.proofs.Learning.{learns_then, learns_wider}
 use Rattle.cell.proofs.Meeting.{from_none, from_some, chosen_not_lacking}

@@ -1,7 +1,7 @@
 use Rattle.std.proofs.Common.{rules, ℕ, Option, ◌≡◌, ◌∙◌, ap, sym, true, None, Some, inr}
 use Rattle.std.proofs.lemmas.Bool.{false≢true}
 use Rattle.protocol_values.specs.declared.Row.{Row}
-use Rattle.protocol.specs.Tables.{is_partner, needs_none, row_eq}
+use Rattle.protocol_ledger.specs.Tables.{is_partner, needs_none, row_eq}
 use Rattle.protocol_ledger.proofs.RowLemmas.{row_eq-refl}
 use Rattle.cell.proofs.Learning.{learns_wider}
 use Rattle.cell_table.specs.Sight.{Has, HaveOffer, LackOffer, IsKnownOpen}

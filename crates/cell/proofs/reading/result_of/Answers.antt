@@ -1,6 +1,6 @@
 use Rattle.std.proofs.Common.{rules, ◌≡◌, ◌⊎◌, true, inl, inr, ⊎_elim, Some, sym, ap, ◌∙◌, subst}
 use Rattle.cell_table.specs.declared.view.View.{View}
-use Rattle.protocol.specs.Tables.{names}
+use Rattle.protocol_ledger.specs.Tables.{names}
 use Rattle.cell_table.specs.Sight.{Has, IsPartnerOf, Learns}
 use Rattle.cell.proofs.Learning.{learns_look, learns_then, learns_wider}
 use Rattle.cell_table.proofs.Results.{one_result, result_more}

@@ -1,6 +1,6 @@
 use Rattle.std.proofs.Common.{◌≡◌, ◌∙◌, ap, arith, sym}
-use Rattle.protocol.specs.Short.{rows_of}
-use Rattle.protocol.specs.Tables.{is_fresh, is_taken}
+use Rattle.protocol_ledger.specs.Short.{rows_of}
+use Rattle.protocol_ledger.specs.Tables.{is_fresh, is_taken}
 use Rattle.cell_table.proofs.InTurn.{all_taken, none_opened, none_past}
 use Rattle.cell_table.proofs.closing.open_row.Goals as goal
 

@@ -1,7 +1,7 @@
 -- the rows before these were taken, and those behind them are not opened
 use Rattle.std.proofs.Common.{◌-◌, ◌<◌, ◌≡◌, ◌≤◌, ℕ, true}
-use Rattle.protocol.specs.Tables.{cell_at, is_fresh, is_taken}
-use Rattle.protocol.specs.Short.{rows_of}
+use Rattle.protocol_ledger.specs.Tables.{cell_at, is_fresh, is_taken}
+use Rattle.protocol_ledger.specs.Short.{rows_of}
 use Rattle.cell_table.specs.Closings.{words_of}
 use Rattle.cell_table.proofs.closing.open_row.Given as goal
 

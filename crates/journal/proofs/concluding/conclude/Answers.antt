@@ -2,8 +2,8 @@ use Rattle.std.proofs.Common.{◌↔◌, Contains, List, map, subst, sym}
 use Rattle.std.proofs.lemmas.Result.{IfOk-weaker}
 use Rattle.script_tree.specs.Processes.{Proc, proc_of}
 use Rattle.protocol_values.specs.declared.Commit.{Commit}
-use Rattle.protocol.specs.Ledgers.{HasCommit, commits_in}
-use Rattle.protocol.specs.Openings.{opening_of}
+use Rattle.protocol_ledger.specs.Ledgers.{HasCommit, commits_in}
+use Rattle.protocol_ledger.specs.Openings.{opening_of}
 use Rattle.journal_order.proofs.Leading.{ledger-is-run}
 use Rattle.journal_order.proofs.Opening.{first-tells-run}
 use Rattle.journal.specs.Records.{Completes, CompletesOrdered}

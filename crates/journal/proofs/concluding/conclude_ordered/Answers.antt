@@ -4,7 +4,7 @@ use Rattle.std.proofs.lemmas.Result.{IfOk-weaker}
 use Rattle.script_tree.specs.Processes.{Proc, proc_of, tree_of}
 use Rattle.script_tree.specs.declared.tree.Block.{Block as Tree}
 use Rattle.protocol_values.specs.declared.Commit.{Commit}
-use Rattle.protocol.specs.Openings.{opening_of}
+use Rattle.protocol_ledger.specs.Openings.{opening_of}
 use Rattle.journal_replay.specs.Gathering.{AreKnown}
 use Rattle.journal_replay.specs.Replays.{StandsAfter}
 use Rattle.journal_replay.specs.Runs.{IsRun}

@@ -1,7 +1,7 @@
 use Rattle.std.proofs.Common.{List, map}
 use Rattle.std.proofs.lemmas.Result.{IfOk-weaker}
 use Rattle.script_tree.specs.Processes.{Proc, proc_of}
-use Rattle.protocol.specs.Openings.{opening_of}
+use Rattle.protocol_ledger.specs.Openings.{opening_of}
 use Rattle.journal_order.proofs.Ordering.{ordered-is-run}
 use Rattle.journal.specs.Records.{CompletesOrdered, CompletesRun}
 use Rattle.journal.proofs.Telling.{gone-moved, told-moved}

@@ -1,7 +1,7 @@
 use Rattle.std.proofs.Common.{map}
 use Rattle.std.proofs.lemmas.Result.{MatchResult-weaker}
 use Rattle.script_tree.specs.Processes.{proc_of}
-use Rattle.protocol.specs.Ledgers.{commits_in}
+use Rattle.protocol_ledger.specs.Ledgers.{commits_in}
 use Rattle.journal.specs.Records.{IsOrdering}
 use Rattle.journal.proofs.Completing.{never-refuses, refuses}
 use Rattle.journal.proofs.record.complete.Goals as goal

@@ -1,7 +1,7 @@
 use Rattle.std.proofs.Common.{sym, ◌∙◌, subst}
 use Rattle.protocol_ledger.proofs.Acting.{start_is}
-use Rattle.protocol.specs.Openings.{HadStarted, Opening}
-use Rattle.protocol.specs.Ledgers.{course_in}
+use Rattle.protocol_ledger.specs.Openings.{HadStarted, Opening}
+use Rattle.protocol_ledger.specs.Ledgers.{course_in}
 use Rattle.cell_table.specs.declared.view.Seen.{Seen}
 use Rattle.cell_table.specs.Rule.{heard, told_of}
 use Rattle.cell_table.specs.Sight.{SeesOffer, SeesNoOffer}

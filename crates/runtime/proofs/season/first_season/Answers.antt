@@ -6,7 +6,7 @@ use Rattle.script_tree.specs.declared.tree.Block.{Block as Tree}
 use Rattle.journal.specs.Concluding.{RunTrees}
 use Rattle.runtime_run.specs.Machines.{machine_in}
 use Rattle.script_tree.specs.Spawning.{AreSpawnedOnce}
-use Rattle.protocol.specs.Openings.{Opening}
+use Rattle.protocol_ledger.specs.Openings.{Opening}
 use Rattle.cell_table.specs.declared.view.Seen.{Seen}
 use Rattle.cell_table.specs.Sight.{WasSettled}
 use Rattle.runtime_worker.specs.declared.resident.Suspended.{Suspended}
@@ -23,7 +23,7 @@ use Rattle.runtime.specs.Season.{IsSeason}
 use Rattle.runtime.proofs.GoingOn.{new_had}
 use Rattle.std.proofs.lemmas.List.{length-replicate}
 use Rattle.protocol_values.specs.declared.Commit.{Commit}
-use Rattle.protocol.specs.Openings.{greatest, start_opening}
+use Rattle.protocol_ledger.specs.Openings.{greatest, start_opening}
 use Rattle.protocol_ledger.specs.declared.opening.NackState.TheVariants.{Unbound}
 use Rattle.protocol_ledger.proofs.LedgerLemmas.{start_greatest, start_threads}
 use Rattle.cell.specs.Calls.{opening_at}

@@ -13,7 +13,7 @@ use Rattle.runtime_run.specs.Machines.{machine_in}
 use Rattle.runtime.proofs.Keeping.{kept_trees}
 use Rattle.script.specs.Scripts.{script_of}
 use Rattle.protocol_ledger.specs.declared.opening.Life.{Life}
-use Rattle.protocol.specs.Openings.{Opening, greatest}
+use Rattle.protocol_ledger.specs.Openings.{Opening, greatest}
 use Rattle.cell_table.specs.declared.view.Seen.{Seen}
 use Rattle.journal_replay.specs.Runs.{IsRun}
 use Rattle.journal_order.specs.Behind.{TellsRun}

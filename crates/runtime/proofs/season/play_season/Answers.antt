@@ -1,6 +1,6 @@
 use Rattle.std.proofs.Common.{◌≡◌, ◌↔◌, ℕ, Contains, List, ◌++◌, map, ◌∙◌, subst, sym, refl}
 use Rattle.protocol_values.specs.declared.Commit.{Commit}
-use Rattle.protocol.specs.Ledgers.{HasCommit}
+use Rattle.protocol_ledger.specs.Ledgers.{HasCommit}
 use Rattle.journal_order.specs.Laws.{IsOrderOf}
 use Rattle.runtime.specs.Between.{renumbered}
 use Rattle.runtime.specs.Played.{ArePlayed}

@@ -8,7 +8,7 @@ use Rattle.script.specs.Scripts.{script_of}
 use Rattle.journal_order.specs.Behind.{TellsRun}
 use Rattle.journal_replay.specs.Runs.{IsRun}
 use Rattle.journal.specs.Concluding.{AreGone, RunTrees}
-use Rattle.protocol.specs.Openings.{opening_of}
+use Rattle.protocol_ledger.specs.Openings.{opening_of}
 use Rattle.runtime.specs.Season.{EndRuns, EndsRun}
 use Rattle.runtime.specs.declared.season.AtEnd.{AtEnd}
 use Rattle.runtime.proofs.LeadingOn.{ends_run}

@@ -7,8 +7,8 @@ use Rattle.cell_table.specs.declared.view.Seen.{Seen}
 use Rattle.script_tree.specs.Spawning.{AreSpawnedOnce}
 use Rattle.journal_order.specs.Ledgers.{IsLedgerOf}
 use Rattle.journal.specs.Concluding.{AreStanding, RunTrees}
-use Rattle.protocol.specs.Acting.{ActsAs, acts_in, before_of}
-use Rattle.protocol.specs.Openings.{Opening}
+use Rattle.protocol_ledger.specs.Acting.{ActsAs, acts_in, before_of}
+use Rattle.protocol_ledger.specs.Openings.{Opening}
 use Rattle.protocol_ledger.specs.declared.layout.Layout.{Layout}
 use Rattle.runtime_run.specs.Syncs.{AreRowsFor}
 use Rattle.runtime_run.proofs.Rows.{each_has_words}

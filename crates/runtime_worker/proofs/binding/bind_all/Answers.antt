@@ -4,7 +4,7 @@ use Rattle.thread.specs.Machines.{nacks_in, offers_in}
 use Rattle.cell.specs.Attempts.{BoundBefore}
 use Rattle.cell_table.specs.declared.view.Seen.{Seen}
 use Rattle.cell_table.specs.Sight.{see_bound}
-use Rattle.protocol.specs.Worlds.{nack_of_row}
+use Rattle.protocol_ledger.specs.Worlds.{nack_of_row}
 use Rattle.runtime_worker.specs.Machines.{LeavesOthers, doings}
 use Rattle.runtime_worker.proofs.Machines.{at_scope, binds, bound_more, is_housing, leaves_bound, leaves_then, nacks_rise, open_is}
 use Rattle.thread.proofs.Rising.{rises_below}

@@ -1,13 +1,13 @@
 use Rattle.std.proofs.Common.{◌≡◌, ◌∙◌, ℕ, [], length, slice_get, Some, ap, sym, subst}
 use Rattle.std.specs.Prelude.{IfOk}
-use Rattle.protocol.specs.Openings.{IsOpening, Opening, opening_of, start_opening}
+use Rattle.protocol_ledger.specs.Openings.{IsOpening, Opening, opening_of, start_opening}
 use Rattle.protocol_ledger.proofs.LedgerLemmas.{start_threads}
 use Rattle.cell.specs.Calls.{IsPassOf, PassView}
 use Rattle.cell_table.specs.Rule.{dealt_from, seen_nothing}
 use Rattle.protocol_ledger.proofs.Going.{start_opens}
 use Rattle.std.specs.Prelude.{◌≤◌, ◌<◌}
 use Rattle.std.proofs.Common.{arith}
-use Rattle.protocol.specs.Short.{Fits, rows_of}
+use Rattle.protocol_ledger.specs.Short.{Fits, rows_of}
 use Rattle.protocol_ledger.specs.declared.layout.Layout.{Layout}
 use Rattle.cell.specs.Calls.{AllHaveWords}
 use Rattle.cell.proofs.Evenness.{even_all, even_some}

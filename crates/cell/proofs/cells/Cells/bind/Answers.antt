@@ -1,6 +1,6 @@
 use Rattle.std.proofs.Common.{◌≡◌, ◌<◌, ℕ, List, Option, length, sym, subst, ap}
-use Rattle.protocol.specs.Worlds.{nack_of_row}
-use Rattle.protocol.specs.Standing.{Result}
+use Rattle.protocol_ledger.specs.Worlds.{nack_of_row}
+use Rattle.protocol_ledger.specs.Standing.{Result}
 use Rattle.cell.specs.Attempts.{Bound, BoundBefore}
 use Rattle.cell.specs.Calls.{GridOf, PassOf}
 use Rattle.cell_table.specs.Sight.{LearnsOf}

@@ -1,6 +1,6 @@
 use Rattle.std.proofs.Common.{◌≡◌, ◌+◌, ◌<◌, ◌≤◌, ◌∙◌, ℕ, arith, List, Option, ap, length, subst, sym}
-use Rattle.protocol.specs.Openings.{state_in, word_for}
-use Rattle.protocol.specs.Tables.{carried_by}
+use Rattle.protocol_ledger.specs.Openings.{state_in, word_for}
+use Rattle.protocol_ledger.specs.Tables.{carried_by}
 use Rattle.protocol_values.specs.declared.Step.{Step}
 use Rattle.cell.specs.Calls.{GathererOf, GridOf, HasSteps, opening_at}
 use Rattle.cell_table.specs.Closings.{HandedOut}

@@ -1,5 +1,5 @@
 use Rattle.std.proofs.Common.{rules, ◌≡◌, ℕ, length, ◌++◌, ◌∷◌, [], sym, ap, subst, ◌∙◌}
-use Rattle.protocol.specs.Openings.{opening_of}
+use Rattle.protocol_ledger.specs.Openings.{opening_of}
 use Rattle.cell_table.specs.declared.view.Shape.{Shape}
 use Rattle.protocol_ledger.specs.declared.layout.Layout.{Layout}
 use Rattle.cell.specs.Calls.{AllHaveWords, PassOf}

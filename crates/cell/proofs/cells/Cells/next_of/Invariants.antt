@@ -1,6 +1,6 @@
 -- The passes so far hold the rows that fall to them, and the dealer goes on with the next.
 use Rattle.std.proofs.Common.{◌≡◌, ℕ, [], length, slice_get, Some}
-use Rattle.protocol.specs.Openings.{opening_of}
+use Rattle.protocol_ledger.specs.Openings.{opening_of}
 use Rattle.cell.specs.Calls.{PassOf}
 use Rattle.cell_table.specs.Rule.{dealer, dealt_from, seen_nothing}
 use Rattle.cell_table.specs.Views.{opening_in}

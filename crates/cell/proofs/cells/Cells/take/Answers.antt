@@ -1,5 +1,5 @@
 use Rattle.std.proofs.Common.{rules, ◌≡◌, ℕ, ◌+◌, ◌∷◌, List, length, ◌<◌, Option, None, Some, ap, sym, subst}
-use Rattle.protocol.specs.Standing.{Result}
+use Rattle.protocol_ledger.specs.Standing.{Result}
 use Rattle.cell_table.specs.declared.view.Seen.{Seen}
 use Rattle.cell.specs.Calls.{GridOf, PassOf, opening_at}
 use Rattle.cell.proofs.Meeting.{from_none}

@@ -1,6 +1,6 @@
 use Rattle.std.proofs.Common.{rules, ◌≡◌, ◌∙◌, ℕ, List, Option, [], length, slice_get, Some, ap, sym, subst}
 use Rattle.std.specs.Prelude.{IfOk, ◌<◌}
-use Rattle.protocol.specs.Openings.{IsOpening, Opening, opening_of, start_opening}
+use Rattle.protocol_ledger.specs.Openings.{IsOpening, Opening, opening_of, start_opening}
 use Rattle.protocol_ledger.proofs.LedgerLemmas.{start_threads}
 use Rattle.cell.specs.Calls.{AllHaveWords, IsPassOf, PassOf}
 use Rattle.cell_table.specs.Rule.{AreMachines, dealt_from, seen_nothing}

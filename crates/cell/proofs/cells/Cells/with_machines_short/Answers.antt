@@ -1,7 +1,7 @@
 -- Its threads have words for all rows.
 use Rattle.std.specs.Prelude.{◌≤◌, ◌<◌}
 use Rattle.std.proofs.Common.{ℕ, arith, length, subst, sym}
-use Rattle.protocol.specs.Short.{Fits, rows_of}
+use Rattle.protocol_ledger.specs.Short.{Fits, rows_of}
 use Rattle.protocol_ledger.specs.declared.layout.Layout.{Layout}
 use Rattle.cell.specs.Calls.{AllHaveWords}
 use Rattle.cell.proofs.Evenness.{even_all, even_some}

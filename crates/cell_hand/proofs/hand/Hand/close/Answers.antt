@@ -2,7 +2,7 @@ use Rattle.std.proofs.Common.{subst}
 use Rattle.std.specs.Prelude.{◌≡◌, ℕ, Some}
 use Rattle.protocol_values.specs.declared.Offer.{Offer}
 use Rattle.protocol_values.specs.declared.Row.{Row}
-use Rattle.protocol.specs.Ledgers.{offer_in}
+use Rattle.protocol_ledger.specs.Ledgers.{offer_in}
 use Rattle.cell_table.specs.Sight.{SeesOffer}
 use Rattle.cell_hand.specs.Hands.{HandOf}
 use Rattle.cell_hand.proofs.hand.Hand.close.Goals as goal

@@ -1,13 +1,13 @@
 use Rattle.std.proofs.Common.{rules, ℕ, List, ◌≡◌, ◌<◌, ◌∙◌, length, None, Some, slice_get, sym, subst, ap, arith}
-use Rattle.protocol.specs.Ledgers.{IsLawful, Ledger, ledger_of, binding_in, carried_in, course_in, joined_in, offer_in}
+use Rattle.protocol_ledger.specs.Ledgers.{IsLawful, Ledger, ledger_of, binding_in, carried_in, course_in, joined_in, offer_in}
 use Rattle.cell_table.specs.Views.{opening_in}
-use Rattle.protocol.specs.Acting.{ActsAs, EndsAt, HasStart, acts_in, before_of}
-use Rattle.protocol.specs.Standing.{AreResults}
+use Rattle.protocol_ledger.specs.Acting.{ActsAs, EndsAt, HasStart, acts_in, before_of}
+use Rattle.protocol_ledger.specs.Standing.{AreResults}
 use Rattle.protocol_ledger.proofs.LedgerLemmas.{course_in_ledger, offer_in_ledger}
 use Rattle.protocol_ledger.proofs.Readings.{course_outside}
 use Rattle.std.specs.Slots.{slots_items}
 use Rattle.cell_table.specs.Closings.{AreInTurn, HandedOut, IsHomeOf}
-use Rattle.protocol.specs.Short.{wide_table}
+use Rattle.protocol_ledger.specs.Short.{wide_table}
 use Rattle.cell_table.proofs.Allowing.{sized}
 use Rattle.cell_table.proofs.Endings.{ended, final_acts, final_before, final_bound, final_carried, final_ended, final_few, final_kept, final_lawful, final_joined, final_lack, final_machine, final_offer, final_opened, final_over, final_own, final_results, final_started, final_turns, final_waiting, sized_ledger}
 use Rattle.cell_table.proofs.InTurn.{offers_open}

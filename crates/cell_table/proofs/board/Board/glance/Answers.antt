@@ -1,10 +1,10 @@
 -- The word of the first row's cell is glanced at.
 use Rattle.std.proofs.Common.{rules, subst, sym, ap, ◌∙◌, ◌≡◌, ℕ, ◌<◌, arith}
-use Rattle.protocol.specs.Openings.{Opening}
+use Rattle.protocol_ledger.specs.Openings.{Opening}
 use Rattle.protocol_ledger.specs.declared.layout.Layout.{Layout}
 use Rattle.cell_table.specs.Sight.{AreSettled, Coherent, OpenHaveWords}
 use Rattle.cell_table.specs.Views.{opening_in}
-use Rattle.protocol.specs.Short.{HasWords}
+use Rattle.protocol_ledger.specs.Short.{HasWords}
 use mathlib.Core.Option.{none as nothing}
 use Rattle.atomic_table.specs.Table.{Allows, step}
 use Rattle.cell_table.specs.declared.view.Shape.{Shape}

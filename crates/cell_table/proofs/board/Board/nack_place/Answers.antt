@@ -1,5 +1,5 @@
 use Rattle.std.proofs.Common.{◌+◌, ◌*◌, ◌∙◌, ap, arith}
-use Rattle.protocol.specs.Short.{row_len, rows_of, words_below}
+use Rattle.protocol_ledger.specs.Short.{row_len, rows_of, words_below}
 use Rattle.protocol_ledger.proofs.Short.{fits_more, short_nack_inside, words_few}
 use Rattle.cell_table.proofs.board.Board.nack_place.Goals as goal
 

@@ -1,5 +1,5 @@
 use Rattle.std.proofs.Common.{◌≡◌, ◌*◌, ◌∙◌, ap, arith, get_or}
-use Rattle.protocol.specs.Short.{row_len, words_below}
+use Rattle.protocol_ledger.specs.Short.{row_len, words_below}
 use Rattle.protocol_ledger.proofs.Short.{short_inside}
 use Rattle.cell_table.proofs.board.Board.place.Goals as goal
 

@@ -2,7 +2,7 @@ use Rattle.std.proofs.Common.{rules, subst, sym, ap, ◌≡◌, ℕ}
 use mathlib.Core.Option.{none}
 use Rattle.atomic_table.specs.Table.{Allows, step}
 use Rattle.protocol_values.specs.declared.Step.TheVariants.{Seal}
-use Rattle.protocol.specs.Worlds.{mirrored}
+use Rattle.protocol_ledger.specs.Worlds.{mirrored}
 use Rattle.cell_table.specs.declared.view.Shape.{Shape}
 use Rattle.cell_table.specs.Rule.{Keeps}
 use Rattle.cell_table.specs.Told.{AgreesWithItself, sealed, settled}

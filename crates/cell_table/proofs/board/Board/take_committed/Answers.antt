@@ -4,12 +4,12 @@ use prog.Atomic.{either}
 use Rattle.atomic_table.specs.Table.{Allows, step}
 use Rattle.protocol_values.specs.Words.{cell_word}
 use Rattle.protocol_values.specs.declared.Cell.{Cell}
-use Rattle.protocol.specs.Standing.{Result}
+use Rattle.protocol_ledger.specs.Standing.{Result}
 use Rattle.cell_table.specs.Views.{did, saw, took_with}
 use Rattle.protocol_values.specs.declared.Step.TheVariants.{Take}
 use Rattle.protocol_values.specs.declared.NackName.{NackName}
 use Rattle.protocol_values.specs.declared.Binding.{Binding}
-use Rattle.protocol.specs.Tables.{bound_row}
+use Rattle.protocol_ledger.specs.Tables.{bound_row}
 use Rattle.protocol_values.specs.Values.{next_row}
 use Rattle.cell_table.specs.Sight.{Has, SawEnded}
 use Rattle.cell_table.specs.Seats.{StaysAtTable}

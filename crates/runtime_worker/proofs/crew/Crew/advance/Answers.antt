@@ -1,6 +1,6 @@
 use Rattle.std.proofs.Common.{rules, ◌≤◌, Some, arith, sym, subst}
 use Rattle.protocol_values.specs.declared.Message.{Message}
-use Rattle.protocol.specs.Standing.{IsLeft}
+use Rattle.protocol_ledger.specs.Standing.{IsLeft}
 use Rattle.cell.specs.Calls.{IsRowOf}
 use Rattle.runtime_worker.specs.Machines.{doings}
 use Rattle.runtime_worker.proofs.Machines.{holds_from, is_housing}

@@ -2,7 +2,7 @@ use Rattle.std.proofs.Common.{rules, arith, ◌≡◌, ◌≤◌, ◌<◌, ℕ, 
 use Rattle.thread.specs.After.{Chosen}
 use Rattle.thread.specs.Machines.{IsOpen, nacks_in, offers_in}
 use Rattle.cell.specs.Calls.{GridOf, Holds}
-use Rattle.protocol.specs.Short.{HasWords}
+use Rattle.protocol_ledger.specs.Short.{HasWords}
 use Rattle.protocol_values.specs.declared.Row.{Row}
 use Rattle.cell_table.specs.Rule.{IsReady}
 use Rattle.cell_table.specs.declared.view.Seen.{Seen}

@@ -1,7 +1,7 @@
 use Rattle.std.proofs.Common.{rules, ◌≡◌, ◌≤◌, ◌∙◌, ◌++◌, ◌∷◌, [], ℕ, List, add-one, ap, length, subst, sym}
 use Rattle.std.specs.Box.{with_value}
 use Rattle.protocol_values.specs.declared.Row.{Row}
-use Rattle.protocol.specs.Standing.{IsLeft}
+use Rattle.protocol_ledger.specs.Standing.{IsLeft}
 use Rattle.thread.specs.After.{Chosen}
 use Rattle.thread.specs.Machines.{SameProcess, Thread}
 use Rattle.thread.specs.Memories.{AddsNew}

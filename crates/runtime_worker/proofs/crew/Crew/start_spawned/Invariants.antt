@@ -1,7 +1,7 @@
 use Rattle.std.proofs.Common.{◌≢◌, ℕ, Contains}
 use Rattle.protocol_values.specs.declared.Binding.{Binding}
 use Rattle.protocol_values.specs.declared.NackName.{NackName}
-use Rattle.protocol.specs.Tables.{bound_row}
+use Rattle.protocol_ledger.specs.Tables.{bound_row}
 use Rattle.cell.specs.Calls.{IsPassOf, KeepsResults}
 use Rattle.cell_table.specs.Sight.{Has, IsStand}
 use Rattle.runtime_worker.specs.Machines.{AreToBegin, IsNow, KeepsRows}

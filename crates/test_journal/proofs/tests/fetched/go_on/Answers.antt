@@ -1,5 +1,5 @@
 use Rattle.std.proofs.Common.{rules, ◌≡◌, ℕ, suc, ◌+◌, ◌<◌, List, ◌∷◌, length, Option, Some, refl, sym, subst, arith}
-use Rattle.protocol.specs.Standing.{Result, Stands}
+use Rattle.protocol_ledger.specs.Standing.{Result, Stands}
 use Rattle.protocol_values.specs.declared.Joined.{Joined}
 use Rattle.protocol_values.specs.declared.Row.{Row}
 use Rattle.protocol_values.specs.Values.{next_row}
