@@ -14,12 +14,11 @@ use Rattle.journal_replay.specs.declared.state.ReplayFault.TheVariants.{Memory, 
 use Rattle.journal_replay.specs.Replays.{EndsOf, OutputsOf, Refuses, StandsAfter}
 use Rattle.journal_replay.specs.Runs.{Config, IsMaximal, IsRun, TellsEnds, config_of}
 use Rattle.journal_replay.proofs.Telling.{ends-both}
-use Rattle.journal_order.specs.Laws.{IsOrderOf}
+use Rattle.journal_ledger.specs.Ledgers.{IsLedgerOf, IsOrderOf}
 use Rattle.journal_order.proofs.Sending.{named-is-received, received-is-sent}
-use Rattle.journal_order.proofs.Leading.{ledger-is-run}
+use Rattle.journal_ledger.proofs.Leading.{ledger-is-run}
 use Rattle.journal_order.proofs.Ordering.{ordered-is-run}
 use Rattle.journal_order.proofs.Runs.{run-front}
-use Rattle.journal_order.specs.Ledgers.{IsLedgerOf}
 use Rattle.journal.proofs.Reordering.{stands-reordered}
 use Rattle.journal.specs.Records.{IsCompletion, IsOrdering, RefusesRun}
 

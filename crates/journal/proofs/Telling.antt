@@ -17,10 +17,9 @@ use Rattle.protocol_ledger.specs.declared.opening.Life.{Life}
 use Rattle.protocol_ledger.specs.declared.opening.Life.TheVariants.{Ended, Running, Unstarted}
 use Rattle.protocol_ledger.specs.declared.opening.NackState.{NackState}
 use Rattle.protocol_ledger.specs.declared.opening.NackState.TheVariants.{Dead, Enabled, Unbound, Unsettled}
-use Rattle.journal_order.specs.Behind.{TellsRun, nack_state}
-use Rattle.journal_order.specs.Laws.{IsOrderOf}
-use Rattle.journal_order.specs.Ledgers.{IsLedgerOf, fired_as}
-use Rattle.journal_order.proofs.Leading.{tells-thread}
+use Rattle.journal_ledger.specs.Behind.{TellsRun, nack_state}
+use Rattle.journal_ledger.specs.Ledgers.{IsLedgerOf, IsOrderOf, fired_as}
+use Rattle.journal_ledger.proofs.Leading.{tells-thread}
 use Rattle.thread_stand.specs.declared.strand.Known.{Known}
 use Rattle.journal_replay.proofs.Lists.{nothing-there, slice_get-first, slice_get-last, slice_get-more}
 use Rattle.journal_replay.specs.Gathering.{AreKnown, HasGone, IsKnown, KnowsLast}

@@ -1,8 +1,8 @@
 //! What the commits of a ledger, or of a run, come to, by the machines that made them.
 
 ghost use Rattle.std.specs.Prelude.{◌≡◌, ◌+◌, ◌*◌, ◌≤◌, ◌<◌, ℕ, IfOk, None, length, map, slice_index_or};
-ghost use Rattle.journal_order.specs.Behind.{TellsRun};
-ghost use Rattle.journal_order.specs.Ledgers.{IsLedgerOf};
+ghost use Rattle.journal_ledger.specs.Behind.{TellsRun};
+ghost use Rattle.journal_ledger.specs.Ledgers.{IsLedgerOf};
 ghost use Rattle.journal_replay.specs.Lines.{trees_in};
 ghost use Rattle.journal_replay.specs.Runs.{IsRun};
 ghost use Rattle.protocol_ledger.specs.Openings.{opening_of};

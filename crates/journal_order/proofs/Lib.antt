@@ -10,9 +10,5 @@ pub mod Unique
 pub mod Ordering
 pub mod Results
 pub mod Sending
-pub mod LedgerOrder
 pub mod Meeting
 pub mod Spawners
-pub mod Leading
-pub mod Schedules
-pub mod Opening

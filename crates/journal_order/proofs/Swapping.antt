@@ -22,7 +22,7 @@ use Rattle.journal_replay.proofs.Firing.{fired-kept, fired-cases}
 use Rattle.journal_replay.proofs.Greatest.{more, in-more, last-more, more-cases, greatest-other, greatest-same}
 use Rattle.journal_replay.proofs.Standing.{result-at, result-other, rows-are, started-alone, touches}
 use Rattle.journal_replay.proofs.Starting.{Touches, counts-back, counts-on, starts-back, starts-on, uncounted as start-uncounted}
-use Rattle.protocol_ledger.specs.Standing.{Gives}
+use Rattle.protocol_values.specs.Commits.{Gives}
 use Rattle.journal_order.proofs.Nacks.{fired-once}
 
 -- WHAT A COMMIT DOES TO A THREAD

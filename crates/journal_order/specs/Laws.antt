@@ -5,7 +5,6 @@ use Rattle.script_tree.specs.Processes.{Proc}
 use Rattle.thread.specs.After.{Chosen}
 use Rattle.protocol_values.specs.declared.Commit.{Commit}
 use Rattle.protocol_values.specs.Commits.{IsInOrder, stamp_of}
-use Rattle.protocol_ledger.specs.Ledgers.{Ledger, IsLawful, commits_in}
 use Rattle.journal_replay.specs.Runs.{HasRow, HasThread, IsOffering, IsRun, Starts, config_of}
 use Rattle.journal_replay.specs.Starting.{CountsForStart}
 use Rattle.journal_order.specs.Meetings.{Meets}
@@ -92,15 +91,6 @@ abbrev pub OneOrder : Type 0
 OneOrder =
     (ps : List Proc) (rows : ℕ) (commits first second : List Commit) → IsRun ps rows commits →
     IsPermutation commits first → IsInOrder first → IsPermutation commits second → IsInOrder second → first ≡ second
-
--- these are a ledger's commits in this order
-pub record IsOrderOf (l : Ledger) (commits : List Commit) : Type 0 where
-  pub all : IsPermutation (commits_in l) commits
-  pub ordered : IsInOrder commits
-
--- a lawful ledger has one such list
-abbrev pub OneLedgerOrder : Type 0
-OneLedgerOrder = (l : Ledger) (first second : List Commit) → IsLawful l → IsOrderOf l first → IsOrderOf l second → first ≡ second
 
 -- MESSAGES
 

@@ -3,7 +3,7 @@ use Rattle.std.proofs.Common.{◌⊎◌, ◌*◌, ℕ, ◌≤◌, List, Some, ap
 use Rattle.std.proofs.Math.Nat.{mul-le-mul_right}
 use Rattle.std.proofs.lemmas.Bool.{cases_lt}
 use Rattle.protocol_values.specs.declared.Commit.{Commit}
-use Rattle.journal_order.specs.Ledgers.{IsLedgerOf}
+use Rattle.journal_ledger.specs.Ledgers.{IsLedgerOf}
 use Rattle.journal.specs.Records.{Completes, CompletesRun}
 use Rattle.journal.specs.declared.record.Record.{Record}
 use Rattle.protocol_ledger.specs.Ledgers.{IsLawful, Ledger}

@@ -8,7 +8,7 @@ use Rattle.script.specs.Sources.{Script}
 use Rattle.journal_text.specs.Journals.{HasAtom, Spells}
 use Rattle.journal_text.specs.Names.{names_of, named}
 use Rattle.journal_text.specs.Texts.{commits_text}
-use Rattle.journal_order.specs.Ledgers.{IsLedgerOf}
+use Rattle.journal_ledger.specs.Ledgers.{IsLedgerOf}
 use Rattle.journal_replay.specs.Runs.{IsRun, config_of}
 use Rattle.thread_stand.specs.declared.end.End.{End}
 use Rattle.thread_stand.specs.declared.end.End.TheVariants.{Spent}

@@ -16,7 +16,8 @@ use Rattle.protocol_values.specs.declared.Joined.{Joined}
 use Rattle.protocol_ledger.specs.Ledgers.{Ledger, HasCommit, Involves, IsLawful, Takes, alone_by, commit_by, commit_named, joined_in, offer_in, pair_by, received_by}
 use Rattle.protocol_ledger.proofs.CommitLemmas.{named_rows}
 use Rattle.protocol_ledger.proofs.Linking.{some_parts}
-use Rattle.protocol_ledger.specs.Standing.{AreResults, Gives, HaveResults, OneResults, Receives, Result}
+use Rattle.protocol_ledger.specs.Standing.{AreResults, HaveResults, OneResults, Receives, Result}
+use Rattle.protocol_values.specs.Commits.{Gives}
 
 abbrev row : ℕ → ℕ → Row
 row t g = record { thread = t; sync = g }

@@ -1,11 +1,9 @@
 -- What rows offer by the results of their threads: whoever stands for a thread offers something after these results.
-use Rattle.std.specs.Prelude.{◌≡◌, ◌⊎◌, ℕ, ◌+◌, ◌<◌, ⊤, false, Option, Some, List, [], ◌∷◌, ◌++◌, length, slice_get}
+use Rattle.std.specs.Prelude.{◌≡◌, ℕ, ◌+◌, ◌<◌, ⊤, false, Option, Some, List, [], ◌∷◌, ◌++◌, length, slice_get}
 use Rattle.protocol_values.specs.declared.Base.{Base}
 use Rattle.protocol_values.specs.declared.Base.TheVariants.{Send, Recv, Always, OnNack, OnEnd, Never}
 use Rattle.protocol_values.specs.declared.Binding.{Binding}
-use Rattle.protocol_values.specs.declared.Cause.TheVariants as cause
 use Rattle.protocol_values.specs.declared.Commit.{Commit}
-use Rattle.protocol_values.specs.declared.Commit.TheVariants.{Pair, Alone}
 use Rattle.protocol_values.specs.declared.Message.{Message}
 use Rattle.protocol_values.specs.declared.Message.TheVariants.{Empty}
 use Rattle.protocol_values.specs.declared.Offer.{Offer}
@@ -13,6 +11,7 @@ use Rattle.protocol_values.specs.declared.Row.{Row}
 use Rattle.protocol_values.specs.declared.Seat.{Seat}
 use Rattle.protocol_values.specs.declared.Step.{Step}
 use Rattle.protocol_values.specs.declared.Step.TheVariants.{Open}
+use Rattle.protocol_values.specs.Commits.{Gives}
 use Rattle.protocol_ledger.specs.Ledgers.{Ledger, HasCommit, Involves, IsLawful, binding_in, ledger_of, offer_in}
 use Rattle.protocol_ledger.specs.Tables.{Table, cell_at, is_fresh}
 use Rattle.protocol_ledger.specs.Worlds.{World, after_step, nack_of_row}
@@ -22,14 +21,6 @@ use Rattle.protocol_ledger.specs.Worlds.{World, after_step, nack_of_row}
 -- the number of the offer that was taken, and a message
 abbrev pub Result : Type 0
 Result = ℕ × Message
-
--- what a commit gives to the threads of its rows: an always gives its message; a nack and an end, like a send, the empty one
-abbrev pub Gives : Commit → Row → Result → Type 0
-Gives (Pair sender receiver chan msg stamp) r result =
-    ((sender.0 ≡ r) × (result ≡ (sender.1, Empty))) ⊎ ((receiver.0 ≡ r) × (result ≡ (receiver.1, msg)))
-Gives (Alone at (cause.Always m) stamp) r result = (at.0 ≡ r) × (result ≡ (at.1, m))
-Gives (Alone at (cause.Nack n) stamp) r result = (at.0 ≡ r) × (result ≡ (at.1, Empty))
-Gives (Alone at (cause.End p) stamp) r result = (at.0 ≡ r) × (result ≡ (at.1, Empty))
 
 -- these are the results of the first syncs of a thread, by the commits of the ledger
 abbrev pub AreResults : Ledger → ℕ → List Result → Type 0

@@ -1,5 +1,5 @@
 -- Commits: their stamps, and the order in which a journal has them.
-use Rattle.std.specs.Prelude.{ℕ, List, Option, Some, None}
+use Rattle.std.specs.Prelude.{◌≡◌, ◌⊎◌, ℕ, List, Option, Some, None}
 use Rattle.std.specs.List.Sorted.{IsSortedByKey}
 use Rattle.std.specs.Ordering.{nat_cmp, ordering_then}
 use Rattle.std.specs.declared.cmp.Ordering.{Ordering}
@@ -26,6 +26,14 @@ message_by (cause.End t) = Empty
 abbrev pub gives : Commit → RowResult × Option RowResult
 gives (Pair sender receiver chan msg stamp) = (record { at = sender; message = Empty }, Some (record { at = receiver; message = msg }))
 gives (Alone at why stamp) = (record { at = at; message = message_by why }, None)
+
+-- what a thread gets for its row: the number of the offer that was taken, and a message
+abbrev pub Gives : Commit → Row → ℕ × Message → Type 0
+Gives (Pair sender receiver chan msg stamp) r result =
+    ((sender.0 ≡ r) × (result ≡ (sender.1, Empty))) ⊎ ((receiver.0 ≡ r) × (result ≡ (receiver.1, msg)))
+Gives (Alone at (cause.Always m) stamp) r result = (at.0 ≡ r) × (result ≡ (at.1, m))
+Gives (Alone at (cause.Nack n) stamp) r result = (at.0 ≡ r) × (result ≡ (at.1, Empty))
+Gives (Alone at (cause.End p) stamp) r result = (at.0 ≡ r) × (result ≡ (at.1, Empty))
 
 -- the most syncs that a thread of a journal makes: 65,535 tables of 1,024 rows
 abbrev pub most_rows : ℕ

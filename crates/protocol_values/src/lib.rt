@@ -11,7 +11,7 @@ mod packing;
 
 pub use packing::{
     is_word_for, pack_atom, pack_cell, pack_count, pack_course, pack_head, pack_nack, pack_offer,
-    read_cell, read_course, read_head, read_offer, unpack_atom, unpack_cell, unpack_count,
+    read_cell, read_head, read_offer, unpack_atom, unpack_cell, unpack_count,
     unpack_course, unpack_head, unpack_nack, unpack_offer,
 };
 

@@ -450,14 +450,6 @@ pub fn unpack_course(word: u64) -> Option<Course>
     }
 }
 
-/// The life of a word of which it is known that it is a life's: nothing is tested.
-pub fn read_course(word: u64) -> Course
-    requires { is_some (course_of word) ≡ true }
-    ensures { course_of word ≡ Some result }
-{
-    course_fields(word)
-}
-
 // ---- a whole offer
 
 #[inline(always)]

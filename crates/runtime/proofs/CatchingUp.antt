@@ -20,7 +20,8 @@ use Rattle.thread.specs.Machines.{HasStopped, Thread}
 use Rattle.thread.specs.Ranges.{BaseIsIn, MessageIsIn}
 use Rattle.protocol_ledger.specs.Acting.{ActsAs, Before, acts_in}
 use Rattle.protocol_ledger.specs.Ledgers.{HasCommit, IsLawful, Ledger, Offers, offer_in}
-use Rattle.protocol_ledger.specs.Standing.{Gives, Result}
+use Rattle.protocol_ledger.specs.Standing.{Result}
+use Rattle.protocol_values.specs.Commits.{Gives}
 use Rattle.protocol_ledger.proofs.Closing.{each_pushed}
 use Rattle.cell.proofs.Lists.{all_one}
 use Rattle.journal_replay.specs.Runs.{message_by}

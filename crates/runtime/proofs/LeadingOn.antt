@@ -34,12 +34,11 @@ use Rattle.journal_replay.proofs.Extending.{Extends, config-extends, none-from}
 use Rattle.journal_replay.proofs.Opening.{moved}
 use Rattle.journal_replay.proofs.Sounding.{run-sound}
 use Rattle.journal_replay.proofs.Standing.{config_from-append}
-use Rattle.journal_order.specs.Behind as behind
-use Rattle.journal_order.specs.Behind.{GoesOn, TellsRun, WentOn, acts_behind, run_on}
-use Rattle.journal_order.specs.Laws.{IsOrderOf}
-use Rattle.journal_order.specs.Ledgers.{ProcessOffers}
-use Rattle.journal_order.proofs.Leading.{ledger-goes-on, results-go-on, rows-go-on}
-use Rattle.journal_order.proofs.Opening.{opening-leads, placed-at, tells-run-on}
+use Rattle.journal_ledger.specs.Behind as behind
+use Rattle.journal_ledger.specs.Behind.{GoesOn, TellsRun, WentOn, acts_behind, run_on}
+use Rattle.journal_ledger.specs.Ledgers.{IsOrderOf, ProcessOffers}
+use Rattle.journal_ledger.proofs.Leading.{ledger-goes-on, results-go-on, rows-go-on}
+use Rattle.journal_ledger.proofs.Opening.{opening-leads, placed-at, tells-run-on}
 use Rattle.journal_order.proofs.Results.{rows-within}
 use Rattle.journal_order.proofs.Runs.{run-wider}
 use Rattle.journal.specs.Concluding.{AreGone}

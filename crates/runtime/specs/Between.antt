@@ -14,7 +14,7 @@ use Rattle.thread.specs.Ranges.{MessageIsIn}
 use Rattle.protocol_ledger.specs.declared.opening.Life.{Life}
 use Rattle.protocol_ledger.specs.declared.opening.Life.TheVariants.{Unstarted, Running, Ended}
 use Rattle.protocol_ledger.specs.Ledgers.{HasCommit, Involves, Ledger}
-use Rattle.protocol_ledger.specs.Standing.{Gives}
+use Rattle.protocol_values.specs.Commits.{Gives}
 use Rattle.runtime_worker.specs.declared.resident.Suspended.{Suspended}
 use Rattle.runtime_worker.specs.Machines.{AreFirst}
 use Rattle.runtime_run.specs.Machines.{AreLeftBy}

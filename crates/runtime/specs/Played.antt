@@ -9,8 +9,8 @@ use Rattle.protocol_values.specs.declared.Offer.{Offer}
 use Rattle.thread_stand.specs.declared.end.End.{End}
 use Rattle.thread_stand.specs.declared.end.End.TheVariants.{Spent}
 use Rattle.journal_replay.specs.Runs.{config_of}
-use Rattle.journal_order.specs.Ledgers.{ProcessOffers}
-use Rattle.journal_order.specs.Behind.{GoesOn, run_on}
+use Rattle.journal_ledger.specs.Ledgers.{ProcessOffers}
+use Rattle.journal_ledger.specs.Behind.{GoesOn, run_on}
 use Rattle.journal.specs.Records.{CompletesRun}
 use Rattle.journal.specs.declared.record.Record.{Record}
 

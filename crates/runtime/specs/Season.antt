@@ -15,7 +15,7 @@ use Rattle.runtime_worker.specs.declared.resident.Suspended.{Suspended}
 use Rattle.runtime_worker.specs.Machines.{IsTable, doings}
 use Rattle.runtime_worker.specs.Workers.{IsNewPassOf}
 use Rattle.journal_replay.specs.Runs.{IsRun, config_of}
-use Rattle.journal_order.specs.Behind.{GoesOn, TellsRun, run_on}
+use Rattle.journal_ledger.specs.Behind.{GoesOn, TellsRun, run_on}
 use Rattle.journal.specs.Concluding.{AreGone, RunTrees}
 use Rattle.runtime.specs.Between.{AreHad, HasResults}
 use Rattle.runtime_run.specs.Machines.{AreLeftBy, machine_in}

@@ -20,8 +20,8 @@ use Rattle.protocol_ledger.specs.declared.opening.NackState.TheVariants.{Enabled
 use Rattle.journal_replay.specs.Runs.{Config, CountsOf, IsGreatest, no_results}
 use Rattle.journal_replay.specs.Standing.{KnowsNack}
 use Rattle.journal_replay.proofs.Greatest.{greatest-none}
-use Rattle.journal_order.specs.Behind.{TellsRun, acts_behind, nack_state}
-use Rattle.journal_order.specs.Ledgers.{IsFirst, IsLedgerOf, fired_as, nothing_before, ProcessOffers, ProcessSpawns, acts_of}
+use Rattle.journal_ledger.specs.Behind.{TellsRun, acts_behind, nack_state}
+use Rattle.journal_ledger.specs.Ledgers.{IsFirst, IsLedgerOf, fired_as, nothing_before, ProcessOffers, ProcessSpawns, acts_of}
 use Rattle.journal_order.proofs.Spawners.{no_spawner}
 use Rattle.runtime_worker.proofs.Processes.{after_of, new_first, offers_as, process_of, spawned_fewer, spawned_there, spawner_there}
 use Rattle.runtime_worker.specs.declared.resident.Suspended.{Suspended}

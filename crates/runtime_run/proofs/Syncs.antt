@@ -7,7 +7,7 @@ use Rattle.protocol_values.specs.declared.Atom.{Atom}
 use Rattle.protocol_values.specs.declared.Message.{Message}
 use Rattle.protocol_values.specs.declared.Offer.{Offer}
 use Rattle.script_tree.specs.Processes.{Proc}
-use Rattle.journal_order.specs.Ledgers.{ProcessOffers}
+use Rattle.journal_ledger.specs.Ledgers.{ProcessOffers}
 use Rattle.thread.specs.declared.Fault.{Fault}
 use Rattle.thread.specs.declared.Fault.TheVariants.{Range}
 use Rattle.thread.specs.Values.{expr_value, list_value, test_value, with_names}

@@ -10,7 +10,7 @@ ghost use Rattle.protocol_ledger.specs.Tables.{carried_by};
 ghost use Rattle.cell.specs.Calls.{IsNackOf, opening_at};
 ghost use Rattle.script.specs.Lines.{trees_of_script};
 ghost use Rattle.script.specs.Scripts.{script_of};
-ghost use Rattle.journal_order.specs.Ledgers.{IsLedgerOf};
+ghost use Rattle.journal_ledger.specs.Ledgers.{IsLedgerOf};
 ghost use Rattle.journal.specs.Concluding.{AreStanding, RunTrees};
 ghost use Rattle.journal.specs.Records.{Completes};
 ghost use Rattle.journal_replay.specs.Lines.{trees_in};

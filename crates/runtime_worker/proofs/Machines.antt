@@ -24,7 +24,7 @@ use Rattle.protocol_ledger.specs.Tables.{bound_row, carried_by}
 use Rattle.protocol_ledger.specs.Worlds.{nack_of_row}
 use Rattle.journal_replay.specs.Runs.{IsOffering}
 use Rattle.journal_order.specs.Laws.{HasScopeAt}
-use Rattle.journal_order.specs.Ledgers.{ProcessOffers}
+use Rattle.journal_ledger.specs.Ledgers.{ProcessOffers}
 use Rattle.journal_order.proofs.Nacks.{one-sync}
 use Rattle.cell.specs.Attempts.{Bound, BoundBefore}
 use Rattle.cell_table.specs.Told.{IsEarlier}

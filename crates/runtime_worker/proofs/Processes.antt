@@ -8,7 +8,7 @@ use Rattle.script_tree.specs.Trees.{Block, block_of}
 use Rattle.thread.specs.After.{Chosen, Outcome, State, after}
 use Rattle.thread.specs.Machines.{Broken, HasStopped, IsAfterAt, IsOpen, Open, Over, Phase, Ready, StartsAs, Stuck, Thread, said_in}
 use Rattle.journal_replay.specs.Starting.{HasSpawned, spawned_in}
-use Rattle.journal_order.specs.Ledgers.{ProcessOffers}
+use Rattle.journal_ledger.specs.Ledgers.{ProcessOffers}
 use Rattle.journal_order.proofs.Spawners.{spawner_is, text_spawns}
 use Rattle.runtime_worker.specs.declared.resident.Suspended.{Suspended}
 use Rattle.runtime_worker.specs.Machines.{AreFirst, AreNew, IsAtSync, IsMachineOf, StandsFor, spawned_by}

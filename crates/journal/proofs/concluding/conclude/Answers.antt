@@ -4,8 +4,8 @@ use Rattle.script_tree.specs.Processes.{Proc, proc_of}
 use Rattle.protocol_values.specs.declared.Commit.{Commit}
 use Rattle.protocol_ledger.specs.Ledgers.{HasCommit, commits_in}
 use Rattle.protocol_ledger.specs.Openings.{opening_of}
-use Rattle.journal_order.proofs.Leading.{ledger-is-run}
-use Rattle.journal_order.proofs.Opening.{first-tells-run}
+use Rattle.journal_ledger.proofs.Leading.{ledger-is-run}
+use Rattle.journal_ledger.proofs.Opening.{first-tells-run}
 use Rattle.journal.specs.Records.{Completes, CompletesOrdered}
 use Rattle.journal.proofs.Telling.{gone-of}
 use Rattle.journal.proofs.concluding.conclude.Goals as goal

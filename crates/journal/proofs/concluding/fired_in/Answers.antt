@@ -1,6 +1,6 @@
 use Rattle.std.proofs.Common.{◌+◌, ◌<◌, arith, ap, get_or, refl, sym, subst, ◌∙◌}
 use Rattle.protocol_ledger.specs.declared.opening.NackState.TheVariants.{Unbound}
-use Rattle.journal_order.specs.Ledgers.{fired_as}
+use Rattle.journal_ledger.specs.Ledgers.{fired_as}
 use Rattle.journal.proofs.Telling.{FiredSo, fired-all, fired-more, fired-none, unfired}
 use Rattle.journal.proofs.concluding.fired_in.Goals as goal
 use Rattle.journal.proofs.concluding.fired_in.Goals.{in-Enabled+in_ok-add, in_default}

@@ -29,7 +29,7 @@ use Rattle.protocol_ledger.proofs.LedgerLemmas.{start_greatest, start_threads}
 use Rattle.cell.specs.Calls.{opening_at}
 use Rattle.journal_replay.specs.Runs.{IsRun, config_of}
 use Rattle.journal_replay.proofs.Running.{run-none}
-use Rattle.journal_order.specs.Behind.{TellsRun}
+use Rattle.journal_ledger.specs.Behind.{TellsRun}
 use Rattle.runtime.specs.declared.season.Season.{Season}
 use Rattle.runtime_run.proofs.Ledgers.{tells_first}
 use Rattle.runtime.proofs.season.first_season.Goals as goal

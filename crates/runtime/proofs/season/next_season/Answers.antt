@@ -16,7 +16,7 @@ use Rattle.protocol_ledger.specs.declared.opening.Life.{Life}
 use Rattle.protocol_ledger.specs.Openings.{Opening, greatest}
 use Rattle.cell_table.specs.declared.view.Seen.{Seen}
 use Rattle.journal_replay.specs.Runs.{IsRun}
-use Rattle.journal_order.specs.Behind.{TellsRun}
+use Rattle.journal_ledger.specs.Behind.{TellsRun}
 use Rattle.runtime_worker.specs.Widths.{AllOfferAtMost}
 use Rattle.runtime_worker.specs.declared.resident.Suspended.{Suspended}
 use Rattle.runtime.specs.declared.between.NextTable.{NextTable}

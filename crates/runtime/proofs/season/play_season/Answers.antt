@@ -1,7 +1,7 @@
 use Rattle.std.proofs.Common.{◌≡◌, ◌↔◌, ℕ, Contains, List, ◌++◌, map, ◌∙◌, subst, sym, refl}
 use Rattle.protocol_values.specs.declared.Commit.{Commit}
 use Rattle.protocol_ledger.specs.Ledgers.{HasCommit}
-use Rattle.journal_order.specs.Laws.{IsOrderOf}
+use Rattle.journal_ledger.specs.Ledgers.{IsOrderOf}
 use Rattle.runtime.specs.Between.{renumbered}
 use Rattle.runtime.specs.Played.{ArePlayed}
 use Rattle.runtime.specs.Season.{IsLedgerOver}

@@ -5,7 +5,7 @@ use Rattle.script_tree.specs.declared.tree.Block.{Block as Tree}
 use Rattle.script.specs.Lines.{trees_of_script}
 use Rattle.journal_replay.specs.Lines.{trees_in}
 use Rattle.script.specs.Scripts.{script_of}
-use Rattle.journal_order.specs.Behind.{TellsRun}
+use Rattle.journal_ledger.specs.Behind.{TellsRun}
 use Rattle.journal_replay.specs.Runs.{IsRun}
 use Rattle.journal.specs.Concluding.{AreGone, RunTrees}
 use Rattle.protocol_ledger.specs.Openings.{opening_of}

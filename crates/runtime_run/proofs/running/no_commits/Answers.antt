@@ -1,7 +1,7 @@
 use Rattle.std.proofs.Common.{◌≡◌, [], ap, sym, subst, ◌∙◌}
 use Rattle.protocol_ledger.specs.Ledgers.{IsLawful, Ledger, ledger_of}
 use Rattle.protocol_ledger.specs.Worlds.{World}
-use Rattle.journal_order.specs.Ledgers.{IsLedgerOf}
+use Rattle.journal_ledger.specs.Ledgers.{IsLedgerOf}
 use Rattle.runtime_run.proofs.Ledgers.{empty_ledger}
 use Rattle.runtime_run.proofs.running.no_commits.Goals as goal
 

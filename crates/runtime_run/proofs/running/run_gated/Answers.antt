@@ -1,7 +1,7 @@
 use Rattle.std.proofs.Common.{◌≡◌, List, subst, sym}
 use Rattle.script_tree.specs.Processes.{Proc}
 use Rattle.script_tree.specs.declared.tree.Block.{Block as Tree}
-use Rattle.journal_order.specs.Ledgers.{IsLedgerOf}
+use Rattle.journal_ledger.specs.Ledgers.{IsLedgerOf}
 use Rattle.script.specs.Scripts.{script_of}
 use Rattle.journal.specs.Concluding.{AreStanding, RunTrees}
 use Rattle.journal_replay.specs.Lines.{trees_in}

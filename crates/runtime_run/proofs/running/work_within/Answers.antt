@@ -5,7 +5,7 @@ use Rattle.script_tree.specs.Processes.{Proc, proc_of, tree_of}
 use Rattle.script_tree.specs.declared.tree.Block.{Block as Tree}
 use Rattle.cell_table.specs.declared.view.Seen.{Seen}
 use Rattle.script_tree.specs.Spawning.{AreSpawnedOnce}
-use Rattle.journal_order.specs.Ledgers.{IsLedgerOf}
+use Rattle.journal_ledger.specs.Ledgers.{IsLedgerOf}
 use Rattle.journal.specs.Concluding.{AreStanding, RunTrees}
 use Rattle.protocol_ledger.specs.Acting.{ActsAs, acts_in, before_of}
 use Rattle.protocol_ledger.specs.Openings.{Opening}

@@ -1,6 +1,6 @@
-use Rattle.journal_order.proofs.Leading.{tells-nack, tells-stamp, tells-started, tells-thread}
-use Rattle.journal_order.proofs.Opening.{first-tells-run}
-use Rattle.journal_order.proofs.ledger_tells_law.Goals as goal
+use Rattle.journal_ledger.proofs.Leading.{tells-nack, tells-stamp, tells-started, tells-thread}
+use Rattle.journal_ledger.proofs.Opening.{first-tells-run}
+use Rattle.journal_ledger.proofs.ledger_tells_law.Goals as goal
 
 pub returns-clause-results : goal.returns-clause-results
 returns-clause-results c = tells-thread

@@ -6,8 +6,8 @@ use Rattle.protocol_ledger.specs.Worlds.{start_world}
 use Rattle.protocol_ledger.proofs.LedgerLemmas.{kept_start, lawful_from_start}
 use Rattle.protocol_ledger.proofs.Onward.{grows-schedule}
 use Rattle.protocol_ledger.proofs.Acting.{schedule-acts}
-use Rattle.journal_order.specs.Ledgers.{ScheduleHasLedger, ScheduleIsRun, acts_of, nothing_before}
-use Rattle.journal_order.proofs.Leading.{ledger-is-run}
+use Rattle.journal_ledger.specs.Ledgers.{ScheduleHasLedger, ScheduleIsRun, acts_of, nothing_before}
+use Rattle.journal_ledger.proofs.Leading.{ledger-is-run}
 
 pub schedule-has-ledger : ScheduleHasLedger
 schedule-has-ledger ps threads rows seats later steps w few_threads few_rows wait plays acts =

@@ -12,7 +12,7 @@ use Rattle.protocol_values.specs.Commits.{first_row, first_thread, stamp_of}
 use Rattle.protocol_ledger.specs.Ledgers.{Ledger, HasCommit, Involves, IsLawful, commits_in, joined_in, offer_in, rows_in}
 use Rattle.protocol_ledger.proofs.CommitLemmas.{commit_told}
 use Rattle.protocol_ledger.proofs.Ordering.{causal_ledger, first_involved}
-use Rattle.journal_order.specs.Laws.{IsOrderOf, OneLedgerOrder}
+use Rattle.journal_ledger.specs.Ledgers.{IsOrderOf, OneLedgerOrder}
 use Rattle.journal_order.proofs.Unique.{ascends-from-order, one-list, same_key}
 
 abbrev row : ℕ → ℕ → Row

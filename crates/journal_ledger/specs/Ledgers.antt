@@ -1,6 +1,6 @@
 -- Ledgers of processes: each thread offers what its process offers after its results, starts the processes that it spawns, and ends
 -- where it ends.
-use Rattle.std.specs.Prelude.{◌≡◌, ℕ, ◌<◌, ◌≤◌, false, List, Option, None, Some, length, take}
+use Rattle.std.specs.Prelude.{◌≡◌, ℕ, ◌<◌, ◌≤◌, false, List, Option, None, Some, length, take, IsPermutation}
 use Rattle.event.specs.Tree.{Tree, offers, scope_nacks}
 use Rattle.script_tree.specs.Processes.{Proc}
 use Rattle.script_tree.specs.Spawning.{spawner}
@@ -10,8 +10,9 @@ use Rattle.protocol_values.specs.declared.NackName.{NackName}
 use Rattle.protocol_values.specs.declared.Offer.{Offer}
 use Rattle.protocol_values.specs.declared.Seat.{Seat}
 use Rattle.protocol_values.specs.declared.Step.{Step}
+use Rattle.protocol_values.specs.Commits.{IsInOrder}
 use Rattle.protocol_ledger.specs.Acting.{Acts, ActsAs, Before, EachStepsAs, HasStart}
-use Rattle.protocol_ledger.specs.Ledgers.{Ledger, IsLawful, course_in, ledger_of}
+use Rattle.protocol_ledger.specs.Ledgers.{Ledger, IsLawful, commits_in, course_in, ledger_of}
 use Rattle.protocol_ledger.specs.Openings.{IsLastStamp, TellsNack}
 use Rattle.protocol_ledger.specs.Standing.{AreResults}
 use Rattle.protocol_ledger.specs.declared.opening.NackState.{NackState}
@@ -20,7 +21,19 @@ use Rattle.protocol_ledger.specs.Worlds.{Plays, World, start_world, waits}
 use Rattle.journal_replay.specs.Runs.{CountsOf, IsGreatest, IsOffering, IsRun, Starts, config_of}
 use Rattle.journal_replay.specs.Standing.{KnowsNack}
 use Rattle.journal_replay.specs.Starting.{HasEnded, SpawnsAt}
-use Rattle.journal_order.specs.Laws.{IsOrderOf}
+
+-- THE LEDGER'S ORDER: by stamp, and then by the thread named first
+
+-- these are a ledger's commits in this order
+pub record IsOrderOf (l : Ledger) (commits : List Commit) : Type 0 where
+  pub all : IsPermutation (commits_in l) commits
+  pub ordered : IsInOrder commits
+
+-- a lawful ledger has one such list
+abbrev pub OneLedgerOrder : Type 0
+OneLedgerOrder = (l : Ledger) (first second : List Commit) → IsLawful l → IsOrderOf l first → IsOrderOf l second → first ≡ second
+
+-- WHAT PROCESSES DO
 
 -- after these results the thread's process offers an event that makes these offers, with these nacks of its scopes
 pub record ProcessOffers (ps : List Proc) (t : ℕ) (results : List Chosen) (made : List Offer) (nacks : List ℕ) : Type 0 where

@@ -20,9 +20,9 @@ use Rattle.protocol_ledger.specs.declared.opening.NackState.TheVariants.{Dead, E
 use Rattle.journal_replay.specs.Runs.{config_of}
 use Rattle.journal_replay.specs.Standing.{KnowsNack}
 use Rattle.journal_replay.specs.Starting.{HasEnded}
-use Rattle.journal_order.specs.Behind.{GoesOn, IsBehind, OfEach, OpeningsLead, TellsRun, TellsRunFirst, TellsRunOn, WentOn, fired_before, nack_state, run_on}
-use Rattle.journal_order.specs.Ledgers.{LedgersTell, fired_as, nothing_before}
-use Rattle.journal_order.proofs.Leading.{first-goes-on, first-numbers, tells-ends-on, tells-nacks-on, tells-stamps-on, tells-starts-on, tells-threads-on}
+use Rattle.journal_ledger.specs.Behind.{GoesOn, IsBehind, OfEach, OpeningsLead, TellsRun, TellsRunFirst, TellsRunOn, WentOn, fired_before, nack_state, run_on}
+use Rattle.journal_ledger.specs.Ledgers.{LedgersTell, fired_as, nothing_before}
+use Rattle.journal_ledger.proofs.Leading.{first-goes-on, first-numbers, tells-ends-on, tells-nacks-on, tells-stamps-on, tells-starts-on, tells-threads-on}
 
 -- NACKS OF NO TABLE: a ledger says nothing of a nack of another thread than its own, nor of one above 63
 unbound-outside : (l : Ledger) (n : NackName) → l.threads ≤ n.thread → nack_in l n ≡ word.Unbound

@@ -25,7 +25,7 @@ use Rattle.protocol_values.specs.declared.Message.TheVariants.{Empty}
 use Rattle.protocol_values.specs.declared.NackName.{NackName}
 use Rattle.protocol_values.specs.declared.Offer.{Offer}
 use Rattle.protocol_values.specs.declared.Row.{Row}
-use Rattle.protocol_values.specs.Commits.{stamp_of}
+use Rattle.protocol_values.specs.Commits.{Gives, stamp_of}
 use Rattle.protocol_values.specs.Scopes.{has_scope}
 use Rattle.protocol_ledger.specs.Acting as acting
 use Rattle.protocol_ledger.specs.Acting.{ActsAs, Before, DoesAt, EndsAt, HasStart, IsStampBehind, IsStarted, StartedBy, before_of}
@@ -49,10 +49,9 @@ use Rattle.journal_replay.proofs.Running.{run-none}
 use Rattle.journal_replay.proofs.Lists.{slice_get-first, slice_get-middle, slice_get-more}
 use Rattle.journal_replay.proofs.Starting.{counts-earlier, counts-later, spawns-once, starts-later}
 use Rattle.journal_replay.proofs.Standing.{config_of-more, counts, row-thread}
-use Rattle.journal_order.specs.Behind.{GoesOn, IsBehind, OfEach, RunsBehind, TellsEndsOn, TellsNacksOn, TellsResultsOn, TellsRowsOn, TellsStampsOn, TellsStartsOn, TellsThreadsOn, acts_behind, fired_before, numbered, renumbered, run_on}
-use Rattle.journal_order.specs.Laws.{IsOrderOf}
-use Rattle.protocol_ledger.specs.Standing.{AreResults, Gives, OffersAs, binding_of}
-use Rattle.journal_order.specs.Ledgers.{IsLedgerOf, nothing_before, LedgerIsRun, LedgersTell, ProcessSpawns, TellsNacks, TellsResults, TellsStamps, TellsStarts, fired_as}
+use Rattle.journal_ledger.specs.Behind.{GoesOn, IsBehind, OfEach, RunsBehind, TellsEndsOn, TellsNacksOn, TellsResultsOn, TellsRowsOn, TellsStampsOn, TellsStartsOn, TellsThreadsOn, acts_behind, fired_before, numbered, renumbered, run_on}
+use Rattle.journal_ledger.specs.Ledgers.{IsLedgerOf, IsOrderOf, LedgerIsRun, LedgersTell, ProcessSpawns, TellsNacks, TellsResults, TellsStamps, TellsStarts, fired_as, nothing_before}
+use Rattle.protocol_ledger.specs.Standing.{AreResults, OffersAs, binding_of}
 use Rattle.protocol_ledger.specs.declared.opening.NackState.TheVariants.{Dead, Enabled, Unbound, Unsettled}
 use Rattle.journal_order.proofs.Nacks.{fired-once}
 use Rattle.journal_order.proofs.Results.{rows-within}

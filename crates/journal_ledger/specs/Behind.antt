@@ -6,19 +6,18 @@ use Rattle.protocol_values.specs.declared.Commit.{Commit}
 use Rattle.protocol_values.specs.declared.Commit.TheVariants.{Pair, Alone}
 use Rattle.protocol_values.specs.declared.NackName.{NackName}
 use Rattle.protocol_values.specs.declared.Row.{Row}
-use Rattle.protocol_values.specs.Commits.{stamp_of}
+use Rattle.protocol_values.specs.Commits.{Gives, stamp_of}
 use Rattle.protocol_ledger.specs.Acting.{Acts, ActsAs, Before, EndsAt, HasStart, before_of}
 use Rattle.protocol_ledger.specs.Ledgers.{HasCommit, Ledger, IsLawful, carried_in, course_in}
 use Rattle.protocol_ledger.specs.Openings.{HadEnded, HadStarted, IsLastStamp, Opening, TellsEnd, TellsNack, state_in, word_for}
-use Rattle.protocol_ledger.specs.Standing.{AreResults, Gives}
+use Rattle.protocol_ledger.specs.Standing.{AreResults}
 use Rattle.protocol_ledger.specs.declared.opening.NackState.{NackState}
 use Rattle.protocol_ledger.specs.declared.opening.NackState.TheVariants.{Enabled, Unbound}
 use Rattle.protocol_ledger.specs.Tables.{carried_by}
 use Rattle.journal_replay.specs.Runs.{Config, CountsOf, HasThread, IsGreatest, IsRun, Starts, config_of}
 use Rattle.journal_replay.specs.Standing.{KnowsNack}
 use Rattle.journal_replay.specs.Starting.{HasEnded}
-use Rattle.journal_order.specs.Laws.{IsOrderOf}
-use Rattle.journal_order.specs.Ledgers.{ProcessOffers, ProcessSpawns, fired_as}
+use Rattle.journal_ledger.specs.Ledgers.{IsOrderOf, ProcessOffers, ProcessSpawns, fired_as}
 
 -- THE RUN'S NUMBERS of syncs: behind those that the thread made before
 

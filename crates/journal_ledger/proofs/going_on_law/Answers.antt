@@ -1,6 +1,6 @@
-use Rattle.journal_order.proofs.Leading.{ledger-goes-on, results-go-on, rows-go-on}
-use Rattle.journal_order.proofs.Opening.{opening-leads, tells-run-on}
-use Rattle.journal_order.proofs.going_on_law.Goals as goal
+use Rattle.journal_ledger.proofs.Leading.{ledger-goes-on, results-go-on, rows-go-on}
+use Rattle.journal_ledger.proofs.Opening.{opening-leads, tells-run-on}
+use Rattle.journal_ledger.proofs.going_on_law.Goals as goal
 
 pub returns-clause-opens : goal.returns-clause-opens
 returns-clause-opens c = opening-leads

@@ -1,0 +1,4 @@
+pub mod LedgerOrder
+pub mod Leading
+pub mod Schedules
+pub mod Opening

@@ -1,5 +1,0 @@
-use Rattle.journal_order.proofs.LedgerOrder.{one-ledger-order}
-use Rattle.journal_order.proofs.ledger_order_law.Goals as goal
-
-pub returns : goal.returns
-returns c = one-ledger-order

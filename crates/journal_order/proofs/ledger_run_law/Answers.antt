@@ -1,5 +1,0 @@
-use Rattle.journal_order.proofs.Leading.{ledger-is-run}
-use Rattle.journal_order.proofs.ledger_run_law.Goals as goal
-
-pub returns : goal.returns
-returns c = ledger-is-run

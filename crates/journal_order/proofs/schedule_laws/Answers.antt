@@ -1,5 +1,0 @@
-use Rattle.journal_order.proofs.Schedules.{schedule-has-ledger, schedule-is-run}
-use Rattle.journal_order.proofs.schedule_laws.Goals as goal
-
-pub returns : goal.returns
-returns c = record { ledger = schedule-has-ledger; run = schedule-is-run }
