@@ -2,9 +2,9 @@
 use Rattle.std.proofs.Common.{ℕ, ◌+◌, sym, ap, subst, ◌∙◌}
 use Rattle.protocol_ledger.specs.Worlds.{Plays, IsRefused}
 use Rattle.protocol_ledger.proofs.Playing.{played_not_refused, one_refused}
-use Rattle.protocol_schedule.specs.Schedule.{Plan}
+use Rattle.protocol.specs.Schedule.{Plan}
 use Rattle.pcml_tool.specs.Play.{IsPlayedOrFaulty, HasOneFirstRefused, start_of}
-use Rattle.protocol_schedule.proofs.PlanLaws.{spells_only_one, spells_or_is_bad}
+use Rattle.protocol.proofs.PlanLaws.{spells_only_one, spells_or_is_bad}
 
 pub played_or_faulty : IsPlayedOrFaulty
 played_or_faulty bytes text k h = (

@@ -5,12 +5,12 @@ use Rattle.protocol_values.specs.declared.Commit.{Commit}
 use Rattle.protocol_values.specs.Commits.{IsInOrder}
 use Rattle.protocol_ledger.specs.Worlds.{World, Plays, IsRefused, start_world}
 use Rattle.protocol_ledger.specs.Ledgers.{Ledger, ledger_of, commits_in, pending_in}
-use Rattle.protocol_schedule.specs.declared.ReadFault.{ReadFault}
-use Rattle.protocol_schedule.specs.declared.ReadFault.TheVariants as reading
-use Rattle.protocol_schedule.specs.declared.Size.{Size}
+use Rattle.protocol.specs.declared.schedule.ReadFault.{ReadFault}
+use Rattle.protocol.specs.declared.schedule.ReadFault.TheVariants as reading
+use Rattle.protocol.specs.declared.schedule.Size.{Size}
 use Rattle.pcml_tool.specs.declared.play.PlayFault.{PlayFault}
 use Rattle.pcml_tool.specs.declared.play.PlayFault.TheVariants.{Memory, BadStep, NotAllowed}
-use Rattle.protocol_schedule.specs.Schedule.{Plan, Spells, IsFirstBadLine}
+use Rattle.protocol.specs.Schedule.{Plan, Spells, IsFirstBadLine}
 use Rattle.journal_text.specs.Names.{numbers}
 use Rattle.journal_text.specs.Texts.{commits_text}
 

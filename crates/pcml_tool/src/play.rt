@@ -2,14 +2,14 @@
 
 ghost use Rattle.std.specs.Prelude.{◌≡◌, ◌≤◌, IfOk, IfErr, IfSome};
 ghost use Rattle.std.specs.String.{string_bytes};
-ghost use Rattle.protocol_schedule.specs.Schedule.{IsSize};
+ghost use Rattle.protocol.specs.Schedule.{IsSize};
 ghost use Rattle.pcml_tool.specs.Play.{later_of, start_of, comes_from, counts_line, Reports, IsPlayed, ExplainsPlay, IsPlayedOrFaulty, HasOneFirstRefused};
 ghost use Rattle.pcml_tool.specs.declared.play.PlayFault.TheVariants.{Memory};
 
 use journal_text::write_numbered;
 use protocol_ledger::Ledger;
 use protocol::{ProtoFault, World, play};
-use protocol_schedule::{ReadFault, Size, read_schedule};
+use protocol::{ReadFault, Size, read_schedule};
 use std::alloc::{AllocError, Global};
 use thiserror::Error;
 

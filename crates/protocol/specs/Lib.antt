@@ -1,1 +1,4 @@
 pub mod States
+pub mod Schedule
+pub mod Reading
+pub mod ReadFaults

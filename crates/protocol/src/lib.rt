@@ -1,4 +1,4 @@
-//! The protocol as a pure machine: worlds, steps and ledgers.
+//! The protocol as a pure machine: worlds, the steps and schedules that they play, and schedules as text.
 #![tactic(auto)]
 
 ghost use Rattle.protocol_ledger.specs.Growing.{CommitsStay, SchedulesAreLawful, TablesGrow};
@@ -10,9 +10,12 @@ ghost use Rattle.protocol_values.specs.declared.Step.{Step};
 ghost use Rattle.protocol_values.specs.declared.Seat.{Seat};
 ghost use Rattle.std.specs.Prelude.{◌≡◌, ℕ, ◌≤◌, List};
 
+mod line;
+mod schedule;
 mod state;
 mod world;
 
+pub use crate::schedule::{ReadFault, Schedule, Size, read_schedule, schedule_text_laws};
 pub use crate::world::{World, play};
 use protocol_values::{Seat, Step};
 use thiserror::Error;

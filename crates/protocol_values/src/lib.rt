@@ -11,8 +11,8 @@ mod packing;
 
 pub use packing::{
     is_word_for, pack_atom, pack_cell, pack_count, pack_course, pack_head, pack_nack, pack_offer,
-    read_cell, read_head, read_offer, unpack_atom, unpack_cell, unpack_count,
-    unpack_course, unpack_head, unpack_nack, unpack_offer,
+    read_cell, read_head, read_offer, unpack_atom, unpack_cell, unpack_count, unpack_course,
+    unpack_head, unpack_nack, unpack_offer,
 };
 
 /// What a message is made of, and what an offer is: two are equal by `==` exactly where they are the same.

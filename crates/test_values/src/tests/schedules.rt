@@ -1,5 +1,5 @@
 use super::checks::check_same;
-use protocol_schedule::{Size, read_schedule, schedule_text_laws};
+use protocol::{Size, read_schedule, schedule_text_laws};
 use protocol_values::{Row, Seat, Step};
 use std::process::Abort;
 use std::test::Fail;

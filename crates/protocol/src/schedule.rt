@@ -1,12 +1,9 @@
 //! Schedules as text: the size of a world, and the steps that seats make in it.
-#![tactic(auto)]
 
 ghost use Rattle.std.specs.Prelude.{◌≡◌, IfOk, IfErr};
-ghost use Rattle.protocol_schedule.specs.declared.ReadFault.TheVariants.{Memory};
-ghost use Rattle.protocol_schedule.specs.Schedule.{Spells, SpellsOnlyOne, SpellsOrIsBad, HasOneFirstBadLine};
-ghost use Rattle.protocol_schedule.specs.ReadFaults.{plan_of, Explains};
-
-mod line;
+ghost use Rattle.protocol.specs.declared.schedule.ReadFault.TheVariants.{Memory};
+ghost use Rattle.protocol.specs.Schedule.{Spells, SpellsOnlyOne, SpellsOrIsBad, HasOneFirstBadLine};
+ghost use Rattle.protocol.specs.ReadFaults.{plan_of, Explains};
 
 use crate::line::{step_line, world_line};
 use protocol_values::{Seat, Step};

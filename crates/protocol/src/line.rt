@@ -1,6 +1,7 @@
 //! The lines of a schedule's text, each read from the front of the bytes.
 
-ghost use Rattle.protocol_schedule.specs.Reading.{Gives, number_at, sync_at, row_at, stand_at, placed_at, draft_at, read_at, join_at, grant_at, bind_at, start_at, finish_at, row_step_at, step_at, step_line_at, seats_at, world_line_at};
+ghost use Rattle.digits.specs.Reading.{Gives, number_at};
+ghost use Rattle.protocol.specs.Reading.{sync_at, row_at, stand_at, placed_at, draft_at, read_at, join_at, grant_at, bind_at, start_at, finish_at, row_step_at, step_at, step_line_at, seats_at, world_line_at};
 
 use crate::Size;
 use digits::{count, number};

@@ -1,6 +1,6 @@
 use Rattle.std.proofs.Common.{length}
-use Rattle.protocol_schedule.proofs.Plans.{IsSoFar}
-use Rattle.protocol_schedule.proofs.read_schedule.Given as goal
+use Rattle.protocol.proofs.Plans.{IsSoFar}
+use Rattle.protocol.proofs.schedule.read_schedule.Given as goal
 
 abbrev pub invariant-loop-rest : goal.invariant-loop-rest
 invariant-loop-rest l = IsSoFar l.bytes l.size l.steps.items l.rest

@@ -1,6 +1,6 @@
 use Rattle.std.proofs.Common.{◌≡◌, ◌≢◌, [], length, inl, refl, ap, arith, rules, tests}
-use Rattle.protocol_schedule.proofs.Plans.{begun, goes_on, falls, breaks, no_world}
-use Rattle.protocol_schedule.proofs.read_schedule.Goals as goal
+use Rattle.protocol.proofs.Plans.{begun, goes_on, falls, breaks, no_world}
+use Rattle.protocol.proofs.schedule.read_schedule.Goals as goal
 
 pub returns-in_default-clause-fault : goal.returns-in_default-clause-fault
 returns-in_default-clause-fault c = inl (refl, no_world c.args.bytes.now c.in_default.ensures)

@@ -5,10 +5,10 @@ use Rattle.std.proofs.lemmas.List.{append-nil}
 use Rattle.std.proofs.lemmas.List.Concat.{flat_map-append}
 use Rattle.protocol_values.specs.declared.Seat.{Seat}
 use Rattle.protocol_values.specs.declared.Step.{Step}
-use Rattle.protocol_schedule.specs.declared.Size.{Size}
-use Rattle.protocol_schedule.specs.Schedule.{text_of, step_line, world_line, IsPlan, IsSeatStep, Spells, NoWorldLineBegins, NoStepLineBegins, IsFirstBadLine}
-use Rattle.protocol_schedule.specs.Reading.{step_line_at, world_line_at}
-use Rattle.protocol_schedule.proofs.Steps.{line_takes, line_again, world_takes, world_again}
+use Rattle.protocol.specs.declared.schedule.Size.{Size}
+use Rattle.protocol.specs.Schedule.{text_of, step_line, world_line, IsPlan, IsSeatStep, Spells, NoWorldLineBegins, NoStepLineBegins, IsFirstBadLine}
+use Rattle.protocol.specs.Reading.{step_line_at, world_line_at}
+use Rattle.protocol.proofs.Steps.{line_takes, line_again, world_takes, world_again}
 
 -- ---- a line begins the bytes exactly where reading finds it
 

@@ -5,8 +5,8 @@ use Rattle.protocol_values.specs.Words.{IsRowInRange}
 use Rattle.protocol_values.specs.declared.Row.{Row}
 use Rattle.digits.specs.Reading.{number_at, count_at}
 use Rattle.digits.proofs.Forms.{Reads, both, made, ended, leadings, numbers, counts, either, Either, choice, settled}
-use Rattle.protocol_schedule.specs.Schedule.{row_text, started_text, IsStandInRange}
-use Rattle.protocol_schedule.specs.Reading.{sync_at, row_at, stand_at, placed_at, seats_alone_at, seats_started_at, seats_at}
+use Rattle.protocol.specs.Schedule.{row_text, started_text, IsStandInRange}
+use Rattle.protocol.specs.Reading.{sync_at, row_at, stand_at, placed_at, seats_alone_at, seats_started_at, seats_at}
 
 -- ---- rows
 

@@ -1,9 +1,9 @@
 -- What a schedule in memory says, and what a fault of reading says of the bytes.
 use Rattle.std.specs.Prelude.{ℕ, List}
-use Rattle.protocol_schedule.specs.declared.Schedule.{Schedule}
-use Rattle.protocol_schedule.specs.declared.ReadFault.{ReadFault}
-use Rattle.protocol_schedule.specs.declared.ReadFault.TheVariants.{Memory, BadStep}
-use Rattle.protocol_schedule.specs.Schedule.{Plan, IsFirstBadLine}
+use Rattle.protocol.specs.declared.schedule.Schedule.{Schedule}
+use Rattle.protocol.specs.declared.schedule.ReadFault.{ReadFault}
+use Rattle.protocol.specs.declared.schedule.ReadFault.TheVariants.{Memory, BadStep}
+use Rattle.protocol.specs.Schedule.{Plan, IsFirstBadLine}
 
 -- a schedule without where it lies in memory
 abbrev pub plan_of : Schedule → Plan

@@ -7,7 +7,7 @@ use Rattle.protocol_values.specs.declared.Row.{Row}
 use Rattle.protocol_values.specs.declared.Seat.{Seat}
 use Rattle.protocol_values.specs.declared.Step.{Step}
 use Rattle.protocol_values.specs.declared.Step.TheVariants.{Draft, Open, Look, Read, Claim, Yield, Join, Seal, Grant, Take, Bind, Start, Finish}
-use Rattle.protocol_schedule.specs.declared.Size.{Size}
+use Rattle.protocol.specs.declared.schedule.Size.{Size}
 
 -- what a schedule says: the size of the world, and the steps in order, each with the seat that makes it
 pub record Plan : Type 0 where

@@ -1,11 +1,11 @@
 -- Reading from left to right: what stands at the front of the bytes, and the bytes after it.
 use Rattle.std.specs.Prelude.{ℕ, List, drop, codes, Option, Some, None, if◌then◌else◌}
-pub use Rattle.digits.specs.Reading.{◌>>=◌, or_else, Gives, digit_of, with_digit, digits_at, number_at, count_at, begins, after_word}
+use Rattle.digits.specs.Reading.{◌>>=◌, or_else, number_at, count_at, begins, after_word}
 use Rattle.protocol_values.specs.declared.Row.{Row}
 use Rattle.protocol_values.specs.declared.Seat.{Seat}
 use Rattle.protocol_values.specs.declared.Step.{Step}
 use Rattle.protocol_values.specs.declared.Step.TheVariants.{Draft, Open, Look, Read, Claim, Yield, Join, Seal, Grant, Take, Bind, Start, Finish}
-use Rattle.protocol_schedule.specs.declared.Size.{Size}
+use Rattle.protocol.specs.declared.schedule.Size.{Size}
 
 -- STEPS
 

@@ -7,12 +7,13 @@ use Rattle.protocol_values.specs.declared.Row.{Row}
 use Rattle.protocol_values.specs.declared.Seat.{Seat}
 use Rattle.protocol_values.specs.declared.Step.{Step}
 use Rattle.protocol_values.specs.declared.Step.TheVariants.{Draft, Open, Look, Read, Claim, Yield, Join, Seal, Grant, Take, Bind, Start, Finish}
-use Rattle.protocol_schedule.specs.declared.Size.{Size}
-use Rattle.protocol_schedule.specs.Schedule.{row_text, step_text, step_line, world_line, IsStandInRange, IsStep, IsSeatStep, IsSize}
-use Rattle.protocol_schedule.specs.Reading.{◌>>=◌, number_at, count_at, draft_at, read_at, join_at, grant_at, bind_at, start_at, finish_at, alone_at, begins, after_word, row_step_at, step_at, step_line_at, seats_at, world_line_at}
+use Rattle.protocol.specs.declared.schedule.Size.{Size}
+use Rattle.protocol.specs.Schedule.{row_text, step_text, step_line, world_line, IsStandInRange, IsStep, IsSeatStep, IsSize}
+use Rattle.digits.specs.Reading.{◌>>=◌, number_at, count_at, begins, after_word}
+use Rattle.protocol.specs.Reading.{draft_at, read_at, join_at, grant_at, bind_at, start_at, finish_at, alone_at, row_step_at, step_at, step_line_at, seats_at, world_line_at}
 use Rattle.digits.proofs.Numbers.{bind_some, chosen_some}
 use Rattle.digits.proofs.Forms.{Reads, both, made, ended, numbers, counts, word_takes}
-use Rattle.protocol_schedule.proofs.Forms.{row_ended, rows, stands, placed, seats, seats_text, AreSeats}
+use Rattle.protocol.proofs.Forms.{row_ended, rows, stands, placed, seats, seats_text, AreSeats}
 
 -- ---- what each kind is done to
 

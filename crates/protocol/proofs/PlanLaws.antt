@@ -5,11 +5,11 @@ use Rattle.std.proofs.lemmas.List.{append-nil}
 use Rattle.std.proofs.lemmas.Option.{some_pair_parts}
 use Rattle.protocol_values.specs.declared.Seat.{Seat}
 use Rattle.protocol_values.specs.declared.Step.{Step}
-use Rattle.protocol_schedule.specs.declared.Size.{Size}
-use Rattle.protocol_schedule.specs.Schedule.{Plan, text_of, step_line, world_line, IsPlan, IsSize, IsSeatStep, BreaksOffAfter, NoWorldLineBegins, NoStepLineBegins, SpellsOnlyOne, SpellsOrIsBad, HasOneFirstBadLine}
-use Rattle.protocol_schedule.specs.Reading.{step_line_at, world_line_at}
-use Rattle.protocol_schedule.proofs.Steps.{line_again, world_again}
-use Rattle.protocol_schedule.proofs.Plans.{not_empty}
+use Rattle.protocol.specs.declared.schedule.Size.{Size}
+use Rattle.protocol.specs.Schedule.{Plan, text_of, step_line, world_line, IsPlan, IsSize, IsSeatStep, BreaksOffAfter, NoWorldLineBegins, NoStepLineBegins, SpellsOnlyOne, SpellsOrIsBad, HasOneFirstBadLine}
+use Rattle.protocol.specs.Reading.{step_line_at, world_line_at}
+use Rattle.protocol.proofs.Steps.{line_again, world_again}
+use Rattle.protocol.proofs.Plans.{not_empty}
 
 same_world : (v w : Size) (a b : List ℕ) → IsSize v → IsSize w → world_line v ++ a ≡ world_line w ++ b → (v ≡ w) × (a ≡ b)
 same_world v w a b p q e = some_pair_parts v w a b (sym (world_again v a p) ∙ ap world_line_at e ∙ world_again w b q)

@@ -1,4 +1,0 @@
-pub mod Forms
-pub mod Steps
-pub mod Plans
-pub mod PlanLaws

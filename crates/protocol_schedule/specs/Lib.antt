@@ -1,3 +1,0 @@
-pub mod Schedule
-pub mod Reading
-pub mod ReadFaults
