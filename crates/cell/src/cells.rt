@@ -388,34 +388,6 @@ impl<M: Resident + Drop> Cells<M> {
         Cells::next_of(alloc, opening, first, rows, layout, passes)
     }
 
-    /// A table of machines that goes on from an opening, as by `next`, whose rows have room for `offers` offers, 0 to
-    /// 8.
-    pub fn next_short(
-        alloc: Global,
-        opening: &Opening,
-        first: Vec<Option<M>>,
-        rows: u16,
-        offers: u8,
-        passes: u8,
-    ) -> Result<(Cells<M>, Vec<Pass<M>>), AllocError>
-        requires housed { M.houses ≡ true }
-        requires opening { IsOpening (opening_of opening.now) rows }
-        requires machines { AreMachines (opening_of opening.now) first.items }
-        requires rows { (1 ≤ rows) × (rows ≤ 1024) }
-        requires offers { offers ≤ 8 }
-        requires passes { (1 ≤ passes) × (passes ≤ 16) }
-        ensures size { IfOk result (λ t. (t.0.threads ≡ length opening.now.threads.items) × (t.0.rows ≡ rows) × (t.0.passes ≡ passes) × (length t.1.items ≡ passes)) }
-        ensures layout { IfOk result (λ t. t.0.layout ≡ even offers rows) }
-        ensures room { IfOk result (λ t. t.0.layout.offers ≡ offers) }
-        ensures first { IfOk result (λ t. t.0.first ≡ first.items) }
-        ensures opening { IfOk result (λ t. opening_at t.0 ≡ opening_of opening.now) }
-        ensures passes { IfOk result (λ t. (number : ℕ) (pass : PassOf M) → slice_get t.1.items number ≡ Some pass → IsPassOf t.0 pass × (pass.seen ≡ seen_nothing (dealt_from (opening_of opening.now) (length opening.now.threads.items) passes number)) × (pass.made ≡ [])) }
-        ensures results { IfOk result (λ t. (number : ℕ) (pass : PassOf M) → slice_get t.1.items number ≡ Some pass → (pass.results ≡ []) × (pass.out ≡ [])) }
-    {
-        let layout = Layout::even(usize::from(offers), rows);
-        Cells::next_of(alloc, opening, first, rows, layout, passes)
-    }
-
     /// Starts the thread from a place of another thread at which the pass stands: a held row that is Fresh, or the place
     /// behind the last row. True where this call started it: at that place's last stamp, and the pass holds the
     /// thread's row 0 from then on. False where it had started before. In a table of machines somebody stands for the
