@@ -20,9 +20,9 @@ pub record HandOf : Type 0 where
   pub board : Directory
   pub scan : Seat (Unit {0}) View
 
--- the pass is of this table, and the place of this directory, which has two lanes for each channel
+-- the pass is of this table, and the place of this directory, which has two sides for each channel
 abbrev pub IsHand : HandOf → Type 0
-IsHand h = IsPassOf h.table h.pass × Sits h.board h.scan × (512 ≤ h.board.lanes)
+IsHand h = IsPassOf h.table h.pass × Sits h.board h.scan × (512 ≤ h.board.sides)
 
 -- WHAT STAYS. It is a hand of the same table, and at the directory nothing is new.
 abbrev pub Stays : HandOf → HandOf → Type 0

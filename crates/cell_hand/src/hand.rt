@@ -21,8 +21,8 @@ use std::alloc::Global;
 use std::marker::Model;
 use std::sync::Arc;
 
-/// Two lanes for each channel.
-const LANES: u32 = 512;
+/// Two sides for each channel.
+const SIDES: u32 = 512;
 
 /// What the hands of one table share.
 #[derive(Drop)]
@@ -87,7 +87,7 @@ impl Hand {
         else {
             return Err(Refusal::Memory);
         };
-        let Ok((directory, scan)) = Directory::new(alloc, LANES) else {
+        let Ok((directory, scan)) = Directory::new(alloc, SIDES) else {
             return Err(Refusal::Memory);
         };
         let Ok(table) = Arc::new(alloc, Table { cells, directory }) else {
@@ -104,7 +104,7 @@ impl Hand {
         scan: DirectoryPass,
     ) -> Result<Vec<Hand>, Refusal>
         requires here { All (λ p. IsPassOf table.now.value.cells p) passes.items }
-        requires sits { Sits table.now.value.directory scan × (512 ≤ table.now.value.directory.lanes) }
+        requires sits { Sits table.now.value.directory scan × (512 ≤ table.now.value.directory.sides) }
         ensures hands { IfOk result (λ hands. AreHands table.now.value.cells passes.items hands.items) }
         ensures refused { IfErr result (λ e. e ≡ Memory) }
     {
@@ -121,7 +121,7 @@ impl Hand {
 
     fn of(table: &Arc<Table>, scan: &mut DirectoryPass, pass: Pass<Bare>) -> Result<Hand, Refusal>
         requires here { IsPassOf table.now.value.cells pass }
-        requires sits { Sits table.now.value.directory scan.old × (512 ≤ table.now.value.directory.lanes) }
+        requires sits { Sits table.now.value.directory scan.old × (512 ≤ table.now.value.directory.sides) }
         ensures hand { IfOk result (λ h. (h.table ≡ table.now.value.cells) × (h.pass ≡ pass)) }
         ensures sits { Sits table.now.value.directory scan.new }
         ensures refused { IfErr result (λ e. e ≡ Memory) }

@@ -31,9 +31,9 @@ EachServes rooms all = All (λ (p : RoomsPass). Serves rooms p.passes.items) all
 abbrev pub IsRoomsPassOf : Meet → RoomsPass → Type 0
 IsRoomsPassOf meet p = Serves meet.rooms.items p.passes.items × (length meet.rooms.items ≡ 2 * meet.channels + meet.nacks + meet.ends)
 
--- it is a pass of these rooms, and of this directory, which has two lanes for each channel that an offer can name
+-- it is a pass of these rooms, and of this directory, which has two sides for each channel that an offer can name
 abbrev pub IsMeetPassOf : Meet → MeetPass → Type 0
-IsMeetPassOf meet p = IsRoomsPassOf meet p.rooms × Sits meet.directory p.scan × (512 ≤ meet.directory.lanes)
+IsMeetPassOf meet p = IsRoomsPassOf meet p.rooms × Sits meet.directory p.scan × (512 ≤ meet.directory.sides)
 
 -- the entry was put, or the pass has put as many as it can count
 abbrev pub Joins : LanePass → LanePass → Offered → Type 0

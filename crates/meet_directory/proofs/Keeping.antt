@@ -40,7 +40,7 @@ has_left [] ys x h = absurd h
 has_left (y ∷ xs) ys x (inl e) = inl e
 has_left (y ∷ xs) ys x (inr h) = inr (has_left xs ys x h)
 
-module _ (lanes : ℕ) where
+module _ (sides : ℕ) where
   -- A look that one pass has, or that found what stands in the word now.
   abbrev IsOf : State (Unit {0}) View → Glimpse → Type 0
   IsOf s a = ((id : ℕ) × (v : View) × (get_elem? s.views id ≡ some v) × Has v.looks a) ⊎ (a.found ≡ slice_index s.words a.word)
@@ -51,7 +51,7 @@ module _ (lanes : ℕ) where
     own : (a : Glimpse) (i n : ℕ) → Has v.looks a → Has a.marks (i, n) → Has v.marks (i, n)
     looks : (a : Glimpse) → Has v.looks a → IsOf s a
 
-  fit_old : (s : State (Unit {0}) View) → Keeps lanes s → (id : ℕ) (v : View) → get_elem? s.views id ≡ some v → IsFit s v
+  fit_old : (s : State (Unit {0}) View) → Keeps sides s → (id : ℕ) (v : View) → get_elem? s.views id ≡ some v → IsFit s v
   fit_old s k id v at = record {
     written = λ i n h. k.written id v i n at h;
     own = λ a i n h m. k.own id v a i n at h m;
@@ -62,13 +62,13 @@ module _ (lanes : ℕ) where
   shows_now : (s : State (Unit {0}) View) (a b : Glimpse) (v : View) → IsFit s v → Has v.looks b → a.found ≡ slice_index s.words a.word → Shows a b.marks
   shows_now s a b v fit has now n h = subst (λ (x : ℕ). Covers a.word x n) (sym now) (fit.written a.word n (fit.own b a.word n has h))
 
-  one_saw : (s : State (Unit {0}) View) → Keeps lanes s → (u v : View) (a b : Glimpse) → IsFit s u → IsFit s v → Has u.looks a → Has v.looks b → IsOf s a → IsOf s b → OneSaw a b
+  one_saw : (s : State (Unit {0}) View) → Keeps sides s → (u v : View) (a b : Glimpse) → IsFit s u → IsFit s v → Has u.looks a → Has v.looks b → IsOf s a → IsOf s b → OneSaw a b
   one_saw s k u v a b fu fv ha hb (inr now) ob = inl (shows_now s a b v fv hb now)
   one_saw s k u v a b fu fv ha hb (inl old) (inr now) = inr (shows_now s b a u fu ha now)
   one_saw s k u v a b fu fv ha hb (inl x) (inl y) = k.one_saw x.0 y.0 x.1 y.1 a b x.2 y.2 x.3 y.3
 
   -- other views, each of which fits
-  rebuilt : (s : State (Unit {0}) View) → Keeps lanes s → (vs : List View) → ((id : ℕ) (v : View) → get_elem? vs id ≡ some v → IsFit s v) → Keeps lanes record { words = s.words; homes = s.homes; views = vs }
+  rebuilt : (s : State (Unit {0}) View) → Keeps sides s → (vs : List View) → ((id : ℕ) (v : View) → get_elem? vs id ≡ some v → IsFit s v) → Keeps sides record { words = s.words; homes = s.homes; views = vs }
   rebuilt s k vs fits = record {
     sized = k.sized;
     written = λ id v i n at h. (fits id v at).written i n h;
@@ -77,7 +77,7 @@ module _ (lanes : ℕ) where
   }
 
   -- a word grows
-  grown : (s : State (Unit {0}) View) → Keeps lanes s → (i n : ℕ) → i < 64 + lanes → ((m : ℕ) → Covers i (slice_index s.words i) m → Covers i n m) → Keeps lanes record { words = slice_set s.words i n; homes = s.homes; views = s.views }
+  grown : (s : State (Unit {0}) View) → Keeps sides s → (i n : ℕ) → i < 64 + sides → ((m : ℕ) → Covers i (slice_index s.words i) m → Covers i n m) → Keeps sides record { words = slice_set s.words i n; homes = s.homes; views = s.views }
   grown s k i n within grows = record {
     sized = length-set s.words i n ∙ k.sized;
     written = λ id v j m at h. let was = k.written id v j m at h in dite (ℕ_discrete j i)
@@ -89,18 +89,18 @@ module _ (lanes : ℕ) where
   }
 
   -- A STEP: the word i becomes n, and the pass's view w
-  stepped_keeps : (s : State (Unit {0}) View) → Keeps lanes s → (i n id : ℕ) (carried : List (ℕ × Unit {0})) (w : View) → i < 64 + lanes → ((m : ℕ) → Covers i (slice_index s.words i) m → Covers i n m)
-      → IsFit (record { words = slice_set s.words i n; homes = s.homes; views = s.views }) w → Keeps lanes (stepped s i n id carried w keeps)
+  stepped_keeps : (s : State (Unit {0}) View) → Keeps sides s → (i n id : ℕ) (carried : List (ℕ × Unit {0})) (w : View) → i < 64 + sides → ((m : ℕ) → Covers i (slice_index s.words i) m → Covers i n m)
+      → IsFit (record { words = slice_set s.words i n; homes = s.homes; views = s.views }) w → Keeps sides (stepped s i n id carried w keeps)
   stepped_keeps s k i n id carried w within grows fit =
       let after : State (Unit {0}) View = record { words = slice_set s.words i n; homes = s.homes; views = s.views } in
-      let g : Keeps lanes after = grown s k i n within grows in
+      let g : Keeps sides after = grown s k i n within grows in
       rebuilt after g (slice_set s.views id w) (λ j v at. ⊎_elim
       (λ (e : (j ≡ id) × (w ≡ v)). subst (λ (z : View). IsFit after z) e.1 fit)
       (λ (e : (j ≢ id) × (get_elem? s.views j ≡ some v)). fit_old after g j v e.1)
       (at_set s.views id j w v at))
 
   -- what is written there now is marked
-  fit_marked : (s : State (Unit {0}) View) → Keeps lanes s → (id i n m : ℕ) (v : View) → get_elem? s.views id ≡ some v → i < 64 + lanes → ((j : ℕ) → Covers i (slice_index s.words i) j → Covers i n j)
+  fit_marked : (s : State (Unit {0}) View) → Keeps sides s → (id i n m : ℕ) (v : View) → get_elem? s.views id ≡ some v → i < 64 + sides → ((j : ℕ) → Covers i (slice_index s.words i) j → Covers i n j)
       → Covers i n m → IsFit (record { words = slice_set s.words i n; homes = s.homes; views = s.views }) (marked i m v)
   fit_marked s k id i n m v at within grows here =
       let after : State (Unit {0}) View = record { words = slice_set s.words i n; homes = s.homes; views = s.views } in
@@ -114,9 +114,9 @@ module _ (lanes : ℕ) where
         looks = old.looks;
       }
 
-  pub mark_allowed : (slots id : ℕ) (me : View × List (ℕ × Unit {0})) (i m : ℕ) (f : ℕ → ℕ) → i < 64 + lanes
+  pub mark_allowed : (slots id : ℕ) (me : View × List (ℕ × Unit {0})) (i m : ℕ) (f : ℕ → ℕ) → i < 64 + sides
       → ((x j : ℕ) → Covers i x j → Covers i (f x) j) → ((x : ℕ) → Covers i (f x) m)
-      → Allows (Keeps lanes) slots id me i f (has_marked (step slots i m 0 mathlib.Core.Option.none) me)
+      → Allows (Keeps sides) slots id me i f (has_marked (step slots i m 0 mathlib.Core.Option.none) me)
   mark_allowed slots id me i m f within grows reached s k homes at range =
       let x : ℕ = slice_index s.words i in (
         marked i m me.0,
@@ -127,7 +127,7 @@ module _ (lanes : ℕ) where
       )
 
   -- what was read
-  fit_saw : (s : State (Unit {0}) View) → Keeps lanes s → (id i : ℕ) (v : View) → get_elem? s.views id ≡ some v → i < 64 + lanes
+  fit_saw : (s : State (Unit {0}) View) → Keeps sides s → (id i : ℕ) (v : View) → get_elem? s.views id ≡ some v → i < 64 + sides
       → IsFit (record { words = slice_set s.words i (slice_index s.words i); homes = s.homes; views = s.views }) (saw i (slice_index s.words i) v)
   fit_saw s k id i v at within =
       let x : ℕ = slice_index s.words i in
@@ -144,19 +144,19 @@ module _ (lanes : ℕ) where
             has;
       }
 
-  seen_keeps : (s : State (Unit {0}) View) → Keeps lanes s → (id i : ℕ) (me : View × List (ℕ × Unit {0})) → get_elem? s.views id ≡ some me.0 → i < 64 + lanes → Keeps lanes (stepped s i (slice_index s.words i) id me.1 (saw i (slice_index s.words i) me.0) keeps)
+  seen_keeps : (s : State (Unit {0}) View) → Keeps sides s → (id i : ℕ) (me : View × List (ℕ × Unit {0})) → get_elem? s.views id ≡ some me.0 → i < 64 + sides → Keeps sides (stepped s i (slice_index s.words i) id me.1 (saw i (slice_index s.words i) me.0) keeps)
   seen_keeps s k id i me at within = stepped_keeps s k i (slice_index s.words i) id me.1 (saw i (slice_index s.words i) me.0) within (λ j c. c) (fit_saw s k id i me.0 at within)
 
-  pub see_allowed : (slots id : ℕ) (me : View × List (ℕ × Unit {0})) (i : ℕ) → i < 64 + lanes → Allows (Keeps lanes) slots id me i (λ n. n) (has_seen (step slots i 0 0 mathlib.Core.Option.none) me)
+  pub see_allowed : (slots id : ℕ) (me : View × List (ℕ × Unit {0})) (i : ℕ) → i < 64 + sides → Allows (Keeps sides) slots id me i (λ n. n) (has_seen (step slots i 0 0 mathlib.Core.Option.none) me)
   see_allowed slots id me i within s k homes at range = (saw i (slice_index s.words i) me.0, keeps, tt, seen_keeps s k id i me at within, refl)
 
   -- and of any two looks that the pass knows of then, one saw the other
-  pub glance_allowed : (slots id : ℕ) (me : View × List (ℕ × Unit {0})) (i : ℕ) → i < 64 + lanes → Allows (Keeps lanes) slots id me i (λ n. n) (has_glanced (step slots i 0 0 mathlib.Core.Option.none) me)
+  pub glance_allowed : (slots id : ℕ) (me : View × List (ℕ × Unit {0})) (i : ℕ) → i < 64 + sides → Allows (Keeps sides) slots id me i (λ n. n) (has_glanced (step slots i 0 0 mathlib.Core.Option.none) me)
   glance_allowed slots id me i within s k homes at range =
       let x : ℕ = slice_index s.words i in
       let w : View = saw i x me.0 in
       let after : State (Unit {0}) View = record { words = slice_set s.words i x; homes = s.homes; views = s.views } in
-      let g : Keeps lanes after = grown s k i x within (λ j c. c) in
+      let g : Keeps sides after = grown s k i x within (λ j c. c) in
       let fit : IsFit after w = fit_saw s k id i me.0 at within in (
         w,
         keeps,
@@ -180,7 +180,7 @@ module _ (lanes : ℕ) where
   }
 
   -- one pass is cut in two: the one keeps what it knows, and the other knows no more
-  split_allowed : (id : ℕ) (v w : View) → ((s : State (Unit {0}) View) → IsFit s v → IsFit s w) → Splits (Keeps lanes) id v v w
+  split_allowed : (id : ℕ) (v w : View) → ((s : State (Unit {0}) View) → IsFit s v → IsFit s w) → Splits (Keeps sides) id v v w
   split_allowed id v w fits s k at = rebuilt s k (slice_set s.views id v ++ w ∷ []) (λ j u here. ⊎_elim
       (λ (old : get_elem? (slice_set s.views id v) j ≡ some u). ⊎_elim
       (λ (e : (j ≡ id) × (v ≡ u)). subst (λ (z : View). IsFit s z) e.1 (fit_old s k id v at))
@@ -189,13 +189,13 @@ module _ (lanes : ℕ) where
       (λ (new : w ≡ u). subst (λ (z : View). IsFit s z) new (fits s (fit_old s k id v at)))
       (at_snoc (slice_set s.views id v) w u j here))
 
-  pub enter_allowed : (id : ℕ) (v : View) → Splits (Keeps lanes) id v v nothing
+  pub enter_allowed : (id : ℕ) (v : View) → Splits (Keeps sides) id v v nothing
   enter_allowed id v = split_allowed id v nothing (λ s fit. fit_nothing s)
 
-  pub tell_allowed : (id : ℕ) (v : View) → Splits (Keeps lanes) id v v v
+  pub tell_allowed : (id : ℕ) (v : View) → Splits (Keeps sides) id v v v
   tell_allowed id v = split_allowed id v v (λ s fit. fit)
 
-  pub hear_allowed : (id : ℕ) (v : View) (other : ℕ) (w : View) → Joins (Keeps lanes) id v other w (heard v w) nothing
+  pub hear_allowed : (id : ℕ) (v : View) (other : ℕ) (w : View) → Joins (Keeps sides) id v other w (heard v w) nothing
   hear_allowed id v other w s k at apart told =
       let both : IsFit s (heard v w) = ⊎_elim
       (λ (e : (other ≡ id) × (heard v w ≡ w)). absurd (apart e.0))
@@ -210,10 +210,10 @@ module _ (lanes : ℕ) where
       (at_set (slice_set s.views id (heard v w)) other j nothing u here))
 
   -- what the rule says of one pass: of any two looks that it knows of, one saw the other
-  pub coherent : (s : State (Unit {0}) View) → Keeps lanes s → (id : ℕ) (v : View) → get_elem? s.views id ≡ some v → Coherent v
+  pub coherent : (s : State (Unit {0}) View) → Keeps sides s → (id : ℕ) (v : View) → get_elem? s.views id ≡ some v → Coherent v
   coherent s k id v at a b ha hb = k.one_saw id id v v a b at at ha hb
 
-  pub begins : (words : List ℕ) (slots : List (Unit {0})) → length words ≡ 64 + lanes → Keeps lanes (opening words slots nothing)
+  pub begins : (words : List ℕ) (slots : List (Unit {0})) → length words ≡ 64 + sides → Keeps sides (opening words slots nothing)
   begins words slots sized = record {
     sized = sized;
     written = λ id v i n at h. absurd (none_written id v at i n h);

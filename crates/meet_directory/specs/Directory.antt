@@ -13,7 +13,7 @@ Has [] x = ⊥
 Has (y ∷ ys) x = (y ≡ x) ⊎ Has ys x
 
 -- What a word that is x says at least, where n was written there or read there before: the word of a thread counts the rows that it
--- has opened; that of a lane has a bit for each thread that ever offered there.
+-- has opened; that of a side has a bit for each thread that ever offered there.
 abbrev pub Covers : ℕ → ℕ → ℕ → Type 0
 Covers word x n = (word < 64 → n ≤ x) × (64 ≤ word → (t : ℕ) → bit_at n t ≤ bit_at x t)
 
@@ -31,8 +31,8 @@ Coherent v = (a b : Glimpse) → Has v.looks a → Has v.looks b → OneSaw a b
 
 -- The rule. Words only grow, so what was written stands; whoever looks has written all that the look has beside it; and of any two
 -- looks one saw the other.
-pub record Keeps (lanes : ℕ) (s : State (Unit {0}) View) : Type 0 where
-  pub sized : length s.words ≡ 64 + lanes
+pub record Keeps (sides : ℕ) (s : State (Unit {0}) View) : Type 0 where
+  pub sized : length s.words ≡ 64 + sides
   pub written : (id : ℕ) (v : View) (i n : ℕ) → get_elem? s.views id ≡ some v → Has v.marks (i, n) → Covers i (slice_index s.words i) n
   pub own : (id : ℕ) (v : View) (a : Glimpse) (i n : ℕ) → get_elem? s.views id ≡ some v → Has v.looks a → Has a.marks (i, n) → Has v.marks (i, n)
   pub one_saw : (i j : ℕ) (u v : View) (a b : Glimpse) → get_elem? s.views i ≡ some u → get_elem? s.views j ≡ some v → Has u.looks a → Has v.looks b → OneSaw a b
@@ -84,18 +84,18 @@ NoBitBetween n from to = (t : ℕ) → from ≤ t → t < to → ¬ HasBit n t
 abbrev pub IsNextBit : ℕ → ℕ → ℕ → Type 0
 IsNextBit n from t = (from ≤ t) × (t < 64) × HasBit n t × NoBitBetween n from t
 
--- the thread is known to have opened its row g, and to offer in lane l
+-- the thread is known to have opened its row g, and to offer on side l
 abbrev pub Opened : List (ℕ × ℕ) → ℕ → ℕ → Type 0
 Opened marks t g = (n : ℕ) × Has marks (t, n) × (g < n)
 
 abbrev pub Offered : List (ℕ × ℕ) → ℕ → ℕ → Type 0
 Offered marks t l = (n : ℕ) × Has marks (64 + l, n) × HasBit n t
 
--- row g of thread t, which offers in lane l, has been published
+-- row g of thread t, which offers on side l, has been published
 abbrev pub Published : List (ℕ × ℕ) → ℕ → ℕ → ℕ → Type 0
 Published marks t g l = Opened marks t g × Offered marks t l
 
--- WHO WAS MISSED: the pass had published row g of thread t in lane l, and then found no row h of thread u in lane k: no bit for the
+-- WHO WAS MISSED: the pass had published row g of thread t on side l, and then found no row h of thread u on side k: no bit for the
 -- thread there, or no so late row of it.
 abbrev pub Missed : View → ℕ → ℕ → ℕ → ℕ → ℕ → ℕ → Type 0
 Missed v t g l u h k =

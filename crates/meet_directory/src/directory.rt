@@ -24,8 +24,8 @@ pub type DirectoryPass = Seat<(), View>;
 #[derive(Drop)]
 pub struct Directory {
     pub(crate) words: Table<(), View, u64, Law, Global>,
-    pub lanes: u64,
-    ghost keyed: { words.shared.key ≡ lanes },
-    ghost sized: { words.shared.table_id.words ≡ 64 + lanes },
-    ghost small: { lanes < 4294967296 },
+    pub sides: u64,
+    ghost keyed: { words.shared.key ≡ sides },
+    ghost sized: { words.shared.table_id.words ≡ 64 + sides },
+    ghost small: { sides < 4294967296 },
 }

@@ -20,16 +20,16 @@ use std::vec::Vec;
 const THREADS: usize = 64;
 
 impl Directory {
-    /// A directory of so many lanes, where nobody has opened a row or offered, and its first pass.
-    pub fn new(alloc: Global, lanes: u32) -> Result<(Directory, DirectoryPass), AllocError>
-        ensures directory { IfOk result (λ r. r.0.lanes ≡ lanes) }
+    /// A directory of so many sides, where nobody has opened a row or offered, and its first pass.
+    pub fn new(alloc: Global, sides: u32) -> Result<(Directory, DirectoryPass), AllocError>
+        ensures directory { IfOk result (λ r. r.0.sides ≡ sides) }
         ensures pass { IfOk result (λ r. Sits r.0 r.1 × (r.1.me.0 ≡ nothing)) }
     {
-        let words = Vec::from_elem(alloc, 0_u64, THREADS + lanes as usize)?;
+        let words = Vec::from_elem(alloc, 0_u64, THREADS + sides as usize)?;
         let slots: Vec<()> = Vec::new(alloc);
-        let lanes = u64::from(lanes);
-        match Table::new(alloc, words.as_slice(), slots, &lanes) {
-            Ok((words, pass)) => Ok((Directory { words, lanes }, pass)),
+        let sides = u64::from(sides);
+        match Table::new(alloc, words.as_slice(), slots, &sides) {
+            Ok((words, pass)) => Ok((Directory { words, sides }, pass)),
             Err(_) => Err(AllocError),
         }
     }
@@ -56,17 +56,17 @@ impl Directory {
             .fetch_max::<Mark>(pass, usize::from(thread), u64::from(row) + 1);
     }
 
-    /// The thread offers in the lane. Where it has done so before, one load is all.
-    pub fn offer(&self, pass: &mut DirectoryPass, thread: u8, lane: u32)
+    /// The thread offers on the side. Where it has done so before, one load is all.
+    pub fn offer(&self, pass: &mut DirectoryPass, thread: u8, side: u32)
         requires sits { Sits self.now pass.old }
         requires thread { thread < 64 }
-        requires lane { lane < self.now.lanes }
+        requires side { side < self.now.sides }
         ensures sits { Sits self.now pass.new × (pass.new.id ≡ pass.old.id) }
-        ensures offered { Offered pass.new.me.0.marks thread lane }
+        ensures offered { Offered pass.new.me.0.marks thread side }
         ensures looks { (a : Glimpse) → Has pass.old.me.0.looks a → Has pass.new.me.0.looks a }
         ensures marks { (m : ℕ × ℕ) → Has pass.old.me.0.marks m → Has pass.new.me.0.marks m }
     {
-        let word = THREADS + lane as usize;
+        let word = THREADS + side as usize;
         let found = self.words.shared.load::<See>(pass, word);
         if !has_bit(found, thread) {
             let _ = self
@@ -76,14 +76,14 @@ impl Directory {
         }
     }
 
-    /// Which threads have ever offered in the lane.
-    pub fn scan_lane(&self, pass: &mut DirectoryPass, lane: u32) -> u64
+    /// Which threads have ever offered on the side.
+    pub fn scan_side(&self, pass: &mut DirectoryPass, side: u32) -> u64
         requires sits { Sits self.now pass.old }
-        requires lane { lane < self.now.lanes }
+        requires side { side < self.now.sides }
         ensures sits { Sits self.now pass.new × (pass.new.id ≡ pass.old.id) }
-        ensures saw { pass.new.me.0 ≡ saw (64 + lane) result pass.old.me.0 }
+        ensures saw { pass.new.me.0 ≡ saw (64 + side) result pass.old.me.0 }
     {
-        self.words.shared.load::<See>(pass, THREADS + lane as usize)
+        self.words.shared.load::<See>(pass, THREADS + side as usize)
     }
 
     /// How many rows the thread has opened.
@@ -129,7 +129,7 @@ fn has_bit(word: u64, thread: u8) -> bool
     word >> thread & 1 == 1
 }
 
-/// The first thread from this one on whose bit is set, of a lane's word.
+/// The first thread from this one on whose bit is set, of a side's word.
 pub fn next_thread(word: u64, from: u8) -> Option<u8>
     requires { from ≤ 64 }
     ensures { MatchOption result (NoBitBetween word from 64) (IsNextBit word from) }
@@ -147,5 +147,5 @@ pub fn next_thread(word: u64, from: u8) -> Option<u8>
 /// What the rule of the directory says of any moment between two atomic steps: of any two looks of any two passes, one saw
 /// what the other pass had written before its look.
 pub fn one_saw_the_other()
-    ensures { (lanes : ℕ) (s : State (Unit {0}) View) → ⟦<Law as TableRule<(), View, u64>>⟧.holds lanes s → (i j : ℕ) (u v : View) (a b : Glimpse) → get_elem? s.views i ≡ some u → get_elem? s.views j ≡ some v → Has u.looks a → Has v.looks b → OneSaw a b }
+    ensures { (sides : ℕ) (s : State (Unit {0}) View) → ⟦<Law as TableRule<(), View, u64>>⟧.holds sides s → (i j : ℕ) (u v : View) (a b : Glimpse) → get_elem? s.views i ≡ some u → get_elem? s.views j ≡ some v → Has u.looks a → Has v.looks b → OneSaw a b }
 {}

@@ -17,7 +17,7 @@ use Rattle.cell_table.specs.declared.view.Seen.{Seen}
 use Rattle.cell_table.specs.Sight.{Coherent, Has, HaveDirection, LackOffer, SawCommitted}
 use Rattle.meet_directory.specs.declared.view.View.{View}
 use Rattle.meet_directory.specs.Directory.{HasBit, Missed, NoBitBetween, NoPairMissed, Opened, Published, glimpse, saw, Has as HasMark}
-use Rattle.meet_scan.specs.Leaving.{ArePublished, AreRead, CannotPass, ComesTo, IsDoneWith, IsHeldUp, IsHeldUpBy, IsLeft, IsLeftAt, IsLeftFor, IsLeftRow, IsPast, IsTried, IsTriedAt, IsTriedFor, KnowsMore, MeetsNoneAt, NoPairLeft, PassedBy, ScansTo, TriesFirst, lanes_of}
+use Rattle.meet_scan.specs.Leaving.{ArePublished, AreRead, CannotPass, ComesTo, IsDoneWith, IsHeldUp, IsHeldUpBy, IsLeft, IsLeftAt, IsLeftFor, IsLeftRow, IsPast, IsTried, IsTriedAt, IsTriedFor, KnowsMore, MeetsNoneAt, NoPairLeft, PassedBy, ScansTo, TriesFirst, sides_of}
 use Rattle.meet_scan.specs.Searches.{FoundAt, Grows, LacksAt, Leaves, Lists}
 use Rattle.meet_scan.specs.Steps.{SearchMade, found_or_left}
 use Rattle.protocol_values.specs.declared.Step.{Step}
@@ -83,7 +83,7 @@ done_more v w s t r d own other u more g done q at = ⊎_elim
     (λ (p : PassedBy s q d). inr (passed_more s t q d g p))
     (done q at)
 
--- no bit of the thread stands in the lane
+-- no bit of the thread stands on the side
 pub no_bit : (v w : View) (s : Seen) (r : Row) (d : Direction) (own other u word : ℕ) → Published v.marks r.thread r.sync own → HasMark w.looks (glimpse (64 + other) word v) → (¬ HasBit word u) → IsDoneWith w s r d own other u
 no_bit v w s r d own other u word published look none q at = inl (glimpse (64 + other) word v, look, published, inl (refl, λ h. none (subst (λ (z : ℕ). HasBit word z) at h)))
 
@@ -179,8 +179,8 @@ rest_of P Q n more before behind k = dite (dec_le n k)
     (λ (far : n ≤ k). behind k far)
     (λ (near : ¬ (n ≤ k)). more k (before k (lt_of_not-le near)))
 
--- lanes of offers that meet cross
-pub crossing : (d e : Direction) → directions_meet d e ≡ true → (l : ℕ) × (m : ℕ) × (lanes_of d ≡ Some (l, m)) × (lanes_of e ≡ Some (m, l)) × (directions_meet e d ≡ true)
+-- sides of offers that meet cross
+pub crossing : (d e : Direction) → directions_meet d e ≡ true → (l : ℕ) × (m : ℕ) × (sides_of d ≡ Some (l, m)) × (sides_of e ≡ Some (m, l)) × (directions_meet e d ≡ true)
 crossing (Send c a) (Recv k) h = let same : c ≡ k = eqb-true c k h in (2 * c, 2 * c + 1, refl, ap (λ (z : ℕ). Some (2 * z + 1, 2 * z)) (sym same), (eq-eqb k c (sym same)))
 crossing (Recv c) (Send k a) h = let same : c ≡ k = eqb-true c k h in (2 * c + 1, 2 * c, refl, ap (λ (z : ℕ). Some (2 * z, 2 * z + 1)) (sym same), (eq-eqb k c (sym same)))
 crossing (Send c a) (Send k b) h = absurd (true≢false (sym h))
@@ -200,7 +200,7 @@ crossing Never e h = absurd (true≢false (sym h))
 
 module _ (threads rows : ℕ) (s : Seen) (agree : Coherent threads rows s) where
   -- the row is left for the offer that was read there
-  left_for : (v : View) (r : Row) (n : ℕ) (d : Direction) (l m : ℕ) → HaveDirection s.words r n d → lanes_of d ≡ Some (l, m) → IsLeftAt v s r n → IsLeft v s r d l m
+  left_for : (v : View) (r : Row) (n : ℕ) (d : Direction) (l m : ℕ) → HaveDirection s.words r n d → sides_of d ≡ Some (l, m) → IsLeftAt v s r n → IsLeft v s r d l m
   left_for v r n d l m have e (inl lack) =
       let one : have.count ≡ lack.0 = agree.one_word r 1 have.count lack.0 have.counted lack.1 in
       let below = subst (λ (c : ℕ). n < unwrap_or (count_of c) 0) one have.below in
@@ -208,7 +208,7 @@ module _ (threads rows : ℕ) (s : Seen) (agree : Coherent threads rows s) where
   left_for v r n d l m have e (inr (f, other, left)) =
       let one : have.head ≡ other.head = agree.one_word r _ have.head other.head have.has_head other.has_head in
       let way : d ≡ f = ap (λ (o : Option _). (unwrap_or o (record { direction = d; scopes = 0 })).direction) (sym have.is ∙ ap head_of one ∙ other.is) in
-      subst (λ (z : Direction). IsLeft v s r z l m) (sym way) (left l m (ap lanes_of (sym way) ∙ e))
+      subst (λ (z : Direction). IsLeft v s r z l m) (sym way) (left l m (ap sides_of (sym way) ∙ e))
 
   pub no_pair_left : (v : View) → NoPairMissed v → NoPairLeft v s
   no_pair_left v none q r d e i j low low' apart fi fj hq hr meet left_q left_r =
@@ -216,24 +216,24 @@ module _ (threads rows : ℕ) (s : Seen) (agree : Coherent threads rows s) where
       nobody_left threads rows s agree v none q r d e i j x.0 x.1 low low' apart fi fj hq hr meet x.4
       (left_for v q i d x.0 x.1 hq x.2 (left_q i fi)) (left_for v r j e x.1 x.0 hr x.3 (left_r j fj))
 
-pub no_lane : (d : Direction) (x : ℕ × ℕ) → lanes_of d ≡ None → lanes_of d ≡ Some x → ⊥
-no_lane d x none some = true≢false (sym (ap is_some some) ∙ ap is_some none)
+pub no_side : (d : Direction) (x : ℕ × ℕ) → sides_of d ≡ None → sides_of d ≡ Some x → ⊥
+no_side d x none some = true≢false (sym (ap is_some some) ∙ ap is_some none)
 
-pub one_lane : (d : Direction) (x y : ℕ × ℕ) → lanes_of d ≡ Some x → lanes_of d ≡ Some y → x ≡ y
-one_lane d x y e f = ap (λ (o : Option (ℕ × ℕ)). unwrap_or o x) (sym e ∙ f)
+pub one_side : (d : Direction) (x y : ℕ × ℕ) → sides_of d ≡ Some x → sides_of d ≡ Some y → x ≡ y
+one_side d x y e f = ap (λ (o : Option (ℕ × ℕ)). unwrap_or o x) (sym e ∙ f)
 
 pub opened_more : (v w : View) (t g : ℕ) → KnowsMore v w → Opened v.marks t g → Opened w.marks t g
 opened_more v w t g more o = (o.0, more.0 (t, o.0) o.1, o.2)
 
-pub left_now : (v : View) (s : Seen) (r : Row) (n : ℕ) (d : Direction) (both : ℕ × ℕ) → HaveDirection s.words r n d → lanes_of d ≡ Some both → IsLeft v s r d both.0 both.1 → IsLeftAt v s r n
-left_now v s r n d both have is left = inr (d, have, λ l m e. subst (λ (z : ℕ × ℕ). IsLeft v s r d z.0 z.1) (one_lane d both (l, m) is e) left)
+pub left_now : (v : View) (s : Seen) (r : Row) (n : ℕ) (d : Direction) (both : ℕ × ℕ) → HaveDirection s.words r n d → sides_of d ≡ Some both → IsLeft v s r d both.0 both.1 → IsLeftAt v s r n
+left_now v s r n d both have is left = inr (d, have, λ l m e. subst (λ (z : ℕ × ℕ). IsLeft v s r d z.0 z.1) (one_side d both (l, m) is e) left)
 
--- PUBLISHED: what is in the lanes of the first offers, and stays there
+-- PUBLISHED: what stands on the sides of the first offers, and stays there
 abbrev pub ArePublishedTo : List (ℕ × ℕ) → Row → List (Option Direction) → ℕ → Type 0
-ArePublishedTo marks r directions n = (k : ℕ) (d : Direction) (l m : ℕ) → k < n → Lists directions k d → lanes_of d ≡ Some (l, m) → Published marks r.thread r.sync l
+ArePublishedTo marks r directions n = (k : ℕ) (d : Direction) (l m : ℕ) → k < n → Lists directions k d → sides_of d ≡ Some (l, m) → Published marks r.thread r.sync l
 
 pub published_next : (v w : View) (r : Row) (directions : List (Option Direction)) (n : ℕ) → KnowsMore v w → ArePublishedTo v.marks r directions n
-    → ((d : Direction) (l m : ℕ) → Lists directions n d → lanes_of d ≡ Some (l, m) → Published w.marks r.thread r.sync l) → ArePublishedTo w.marks r directions (n + 1)
+    → ((d : Direction) (l m : ℕ) → Lists directions n d → sides_of d ≡ Some (l, m) → Published w.marks r.thread r.sync l) → ArePublishedTo w.marks r directions (n + 1)
 published_next v w r directions n more before here k d l m low listed is = dite (ℕ_discrete k n)
     (λ (e : k ≡ n). here d l m (subst (λ (z : ℕ). Lists directions z d) e listed) is)
     (λ (ne : k ≢ n). published_more v w r.thread r.sync l more (before k d l m (omega arith) listed is))
@@ -316,23 +316,23 @@ read_more s t r directions g read n low = by_case (get_or directions n None) (re
     by_case None h = lack_more s t r n g h
     by_case (Some d) h = have_more s t r n d g h
 
-needs_partner : (d : Direction) (both : ℕ × ℕ) → lanes_of d ≡ Some both → NeedsPartner d
+needs_partner : (d : Direction) (both : ℕ × ℕ) → sides_of d ≡ Some both → NeedsPartner d
 needs_partner (Send c a) both e = λ s x y z h. h
 needs_partner (Recv c) both e = λ s x y z h. h
-needs_partner (Always a) both e = absurd (no_lane (Always a) both refl e)
-needs_partner (OnNack n) both e = absurd (no_lane (OnNack n) both refl e)
-needs_partner (OnEnd p) both e = absurd (no_lane (OnEnd p) both refl e)
-needs_partner Never both e = absurd (no_lane Never both refl e)
+needs_partner (Always a) both e = absurd (no_side (Always a) both refl e)
+needs_partner (OnNack n) both e = absurd (no_side (OnNack n) both refl e)
+needs_partner (OnEnd p) both e = absurd (no_side (OnEnd p) both refl e)
+needs_partner Never both e = absurd (no_side Never both refl e)
 
--- an offer with a lane does not let its row stand alone
-pub never_alone : (threads rows : ℕ) (s : Seen) (r : Row) (n : ℕ) (d : Direction) (both : ℕ × ℕ) → Coherent threads rows s → HaveDirection s.words r n d → lanes_of d ≡ Some both → ¬ CanStandAlone s r n
+-- an offer with a side does not let its row stand alone
+pub never_alone : (threads rows : ℕ) (s : Seen) (r : Row) (n : ℕ) (d : Direction) (both : ℕ × ℕ) → Coherent threads rows s → HaveDirection s.words r n d → sides_of d ≡ Some both → ¬ CanStandAlone s r n
 never_alone threads rows s r n d both agree have e = stands_never threads rows s r n d agree (inl have) (needs_partner d both e)
 
-pub left_in_lane : (v : View) (s : Seen) (r : Row) (d : Direction) (both : ℕ × ℕ) → lanes_of d ≡ Some both → IsLeft v s r d both.0 both.1 → IsLeftFor v s r d
-left_in_lane v s r d both is left l m e = subst (λ (z : ℕ × ℕ). IsLeft v s r d z.0 z.1) (one_lane d both (l, m) is e) left
+pub left_in_side : (v : View) (s : Seen) (r : Row) (d : Direction) (both : ℕ × ℕ) → sides_of d ≡ Some both → IsLeft v s r d both.0 both.1 → IsLeftFor v s r d
+left_in_side v s r d both is left l m e = subst (λ (z : ℕ × ℕ). IsLeft v s r d z.0 z.1) (one_side d both (l, m) is e) left
 
-pub left_nowhere : (v : View) (s : Seen) (r : Row) (d : Direction) → lanes_of d ≡ None → IsLeftFor v s r d
-left_nowhere v s r d none l m e = absurd (no_lane d (l, m) none e)
+pub left_nowhere : (v : View) (s : Seen) (r : Row) (d : Direction) → sides_of d ≡ None → IsLeftFor v s r d
+left_nowhere v s r d none l m e = absurd (no_side d (l, m) none e)
 
 -- the first offers, and one more; where it is asked, none of them lets the row stand alone
 abbrev pub AreLeft : View → Seen → Seen → Row → Type 0 → ℕ → Type 0
@@ -467,13 +467,13 @@ tried_behind g v s t r first n lacks before k = dite (dec_le n k)
     (λ (far : n ≤ k). inl (lacks_behind t r n k far lacks))
     (λ (near : ¬ (n ≤ k)). before k (lt_of_not-le near))
 
--- for an offer that has this lane, or none
-pub tried_in_lane : {M : Type 0} (g : GridOf M) (v : View) (s t : Seen) (r : Row) (d : Direction) (both : ℕ × ℕ) (first : ℕ) → lanes_of d ≡ Some both
+-- for an offer that has this side, or none
+pub tried_in_side : {M : Type 0} (g : GridOf M) (v : View) (s t : Seen) (r : Row) (d : Direction) (both : ℕ × ℕ) (first : ℕ) → sides_of d ≡ Some both
     → IsDoneWith v t r d both.0 both.1 first ⊎ IsHeldUpBy g v s t r first → IsTriedFor g v s t r d first
-tried_in_lane g v s t r d both first is tried l m e = subst (λ (z : ℕ × ℕ). IsDoneWith v t r d z.0 z.1 first ⊎ IsHeldUpBy g v s t r first) (one_lane d both (l, m) is e) tried
+tried_in_side g v s t r d both first is tried l m e = subst (λ (z : ℕ × ℕ). IsDoneWith v t r d z.0 z.1 first ⊎ IsHeldUpBy g v s t r first) (one_side d both (l, m) is e) tried
 
-pub tried_nowhere : {M : Type 0} (g : GridOf M) (v : View) (s t : Seen) (r : Row) (d : Direction) (first : ℕ) → lanes_of d ≡ None → IsTriedFor g v s t r d first
-tried_nowhere g v s t r d first none l m e = absurd (no_lane d (l, m) none e)
+pub tried_nowhere : {M : Type 0} (g : GridOf M) (v : View) (s t : Seen) (r : Row) (d : Direction) (first : ℕ) → sides_of d ≡ None → IsTriedFor g v s t r d first
+tried_nowhere g v s t r d first none l m e = absurd (no_side d (l, m) none e)
 
 -- what a search that has tried it comes to
 tried_tries : {M : Type 0} (g : GridOf M) (v : View) (s t : Seen) (r : Row) (first : ℕ) (found : Found) → IsTried g v s t r first → TriesFirst g v s t r first found

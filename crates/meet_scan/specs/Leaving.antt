@@ -15,24 +15,24 @@ use Rattle.meet_scan.specs.declared.found.Found.{Found}
 use Rattle.meet_scan.specs.declared.found.Found.TheVariants.{Met, Alone, Already, Left}
 use Rattle.meet_scan.specs.Searches.{IsAlone, IsMetWith, Lists}
 
--- LANES
+-- SIDES
 
--- the lane of an offer in this direction, and the one in which those stand that it may meet: two lanes for each channel
-abbrev pub lanes_of : Direction → Option (ℕ × ℕ)
-lanes_of (Send chan atoms) = Some (2 * chan, 2 * chan + 1)
-lanes_of (Recv chan) = Some (2 * chan + 1, 2 * chan)
-lanes_of (Always atoms) = None
-lanes_of (OnNack n) = None
-lanes_of (OnEnd p) = None
-lanes_of Never = None
+-- the side of an offer in this direction, and the one in which those stand that it may meet: two sides for each channel
+abbrev pub sides_of : Direction → Option (ℕ × ℕ)
+sides_of (Send chan atoms) = Some (2 * chan, 2 * chan + 1)
+sides_of (Recv chan) = Some (2 * chan + 1, 2 * chan)
+sides_of (Always atoms) = None
+sides_of (OnNack n) = None
+sides_of (OnEnd p) = None
+sides_of Never = None
 
 -- the list tells the row's offers, by their heads that were read
 abbrev pub AreRead : Seen → Row → List (Option Direction) → Type 0
 AreRead s r directions = (n : ℕ) → n < 8 → MatchOption (get_or directions n None) (LackOffer s.words r n) (HaveDirection s.words r n)
 
--- the row stands in the lane of each listed offer that has one
+-- the row stands on the side of each listed offer that has one
 abbrev pub ArePublished : List (ℕ × ℕ) → Row → List (Option Direction) → Type 0
-ArePublished marks r directions = (n : ℕ) (d : Direction) (l m : ℕ) → Lists directions n d → lanes_of d ≡ Some (l, m) → Published marks r.thread r.sync l
+ArePublished marks r directions = (n : ℕ) (d : Direction) (l m : ℕ) → Lists directions n d → sides_of d ≡ Some (l, m) → Published marks r.thread r.sync l
 
 -- the pass at the directory has written and read no less
 abbrev pub KnowsMore : View → View → Type 0
@@ -65,14 +65,14 @@ IsDoneWith v s r d own other u = (q : Row) → q.thread ≡ u → Missed v r.thr
 
 -- WHO IS LEFT
 
--- A row is left for its offer in this direction, which stands in lane own, by one who looked into lane other: each row of another
+-- A row is left for its offer in this direction, which stands on side own, by one who looked at side other: each row of another
 -- thread was missed in the directory, or passed by.
 abbrev pub IsLeft : View → Seen → Row → Direction → ℕ → ℕ → Type 0
 IsLeft v s r d own other = (q : Row) → q.thread < 64 → q.thread ≢ r.thread → Missed v r.thread r.sync own q.thread q.sync other ⊎ PassedBy s q d
 
--- where an offer in this direction has a lane
+-- where an offer in this direction has a side
 abbrev pub IsLeftFor : View → Seen → Row → Direction → Type 0
-IsLeftFor v s r d = (l m : ℕ) → lanes_of d ≡ Some (l, m) → IsLeft v s r d l m
+IsLeftFor v s r d = (l m : ℕ) → sides_of d ≡ Some (l, m) → IsLeft v s r d l m
 
 -- for its offer n, if the row has one
 abbrev pub IsLeftAt : View → Seen → Row → ℕ → Type 0
@@ -98,7 +98,7 @@ ScansTo v s t r Left = IsLeftRow v t r × (¬ SawCommitted s r)
 
 -- WHO IS IN THE WAY
 
--- Behind the publishing of the row, which offers in lane own, the directory named the other as its thread's newest.
+-- Behind the publishing of the row, which offers on side own, the directory named the other as its thread's newest.
 abbrev pub IsNamed : View → Row → ℕ → Row → Type 0
 IsNamed v r own q = (a : Glimpse) × HasMark v.looks a × Published a.marks r.thread r.sync own × (a.word ≡ q.thread) × (a.found ≡ q.sync + 1)
 
@@ -121,9 +121,9 @@ IsHeldUpBy g v s t r u = (held : IsHeldUp g v s t r) × (held.other.thread ≡ u
 
 -- WHO IS TRIED FIRST
 
--- for an offer in this direction, if it has a lane: each row of thread u was missed or passed by, or one was in the way
+-- for an offer in this direction, if it has a side: each row of thread u was missed or passed by, or one was in the way
 abbrev pub IsTriedFor : {M : Type 0} → GridOf M → View → Seen → Seen → Row → Direction → ℕ → Type 0
-IsTriedFor g v s t r d u = (l m : ℕ) → lanes_of d ≡ Some (l, m) → IsDoneWith v t r d l m u ⊎ IsHeldUpBy g v s t r u
+IsTriedFor g v s t r d u = (l m : ℕ) → sides_of d ≡ Some (l, m) → IsDoneWith v t r d l m u ⊎ IsHeldUpBy g v s t r u
 
 -- for offer n of the row, if it has one
 abbrev pub IsTriedAt : {M : Type 0} → GridOf M → View → Seen → Seen → Row → ℕ → ℕ → Type 0

@@ -8,7 +8,7 @@ ghost use Rattle.cell_table.specs.declared.view.Seen.{Seen};
 ghost use Rattle.meet_directory.specs.Directory.{NoPairMissed, Offered, Published};
 ghost use Rattle.meet_directory.specs.Seats.{Sits};
 ghost use Rattle.meet_directory.specs.declared.view.View.{View};
-ghost use Rattle.meet_scan.specs.Leaving.{ArePublished, AreRead, CannotPass, ComesTo, IsDoneWith, IsHeldUp, IsHeldUpBy, IsLeft, IsLeftFor, IsLeftRow, IsTried, KnowsMore, MeetsAt, MeetsNone, MeetsOnly, NoPairLeft, NobodyLeft, PassedBy, ScansTo, TriesFirst, lanes_of};
+ghost use Rattle.meet_scan.specs.Leaving.{ArePublished, AreRead, CannotPass, ComesTo, IsDoneWith, IsHeldUp, IsHeldUpBy, IsLeft, IsLeftFor, IsLeftRow, IsTried, KnowsMore, MeetsAt, MeetsNone, MeetsOnly, NoPairLeft, NobodyLeft, PassedBy, ScansTo, TriesFirst, sides_of};
 ghost use Rattle.meet_scan.specs.Searches.{Finds, FoundAt, Grows, StandsByNone};
 ghost use Rattle.meet_scan.specs.Steps.{OnlyLooks, SearchMade, found_or_left};
 
@@ -94,7 +94,7 @@ fn scan_thread<G: StepGate, M: Resident>(
     gate: &G,
     mine: (Row, u8),
     direction: Direction,
-    lanes: (u32, u32),
+    sides: (u32, u32),
     other: u8,
 ) -> Option<Found>
     requires here { IsPassOf cells.now pass.old × IsRowOf cells.now mine.0 }
@@ -102,14 +102,14 @@ fn scan_thread<G: StepGate, M: Resident>(
     requires read { HaveDirection pass.old.seen.words mine.0 mine.1 direction }
     requires sits { Sits directory.now scan.old }
     requires other { (other < 64) × (mine.0.thread ≢ other) }
-    requires published { Published scan.old.me.0.marks mine.0.thread mine.0.sync lanes.0 }
+    requires published { Published scan.old.me.0.marks mine.0.thread mine.0.sync sides.0 }
     ensures here { IsPassOf cells.now pass.new }
     ensures grows { Grows pass.old.seen pass.new.seen }
     ensures results { KeepsResults pass.old pass.new }
     ensures sits { Sits directory.now scan.new }
     ensures more { KnowsMore scan.old.me.0 scan.new.me.0 }
     ensures made { SearchMade mine.0 (found_or_left result) pass.old.made pass.new.made }
-    ensures found { IfSome result (ComesTo pass.new.seen mine.0 (IsDoneWith scan.new.me.0 pass.new.seen mine.0 direction lanes.0 lanes.1 other)) }
+    ensures found { IfSome result (ComesTo pass.new.seen mine.0 (IsDoneWith scan.new.me.0 pass.new.seen mine.0 direction sides.0 sides.1 other)) }
     ensures only { IfSome result (MeetsOnly other) }
     ensures again { IfNone result (IsHeldUpBy cells.now scan.new.me.0 pass.old.seen pass.new.seen mine.0 other) }
 {
@@ -131,9 +131,9 @@ fn scan_thread<G: StepGate, M: Resident>(
     scan_row(cells, pass, gate, mine, direction, newest)
 }
 
-/// Tries to meet the newest row of each thread that has ever offered in the opposite lane. None: one was claimed, and
+/// Tries to meet the newest row of each thread that has ever offered on the opposite side. None: one was claimed, and
 /// the others came to nothing.
-fn scan_lane<G: StepGate, M: Resident>(
+fn scan_side<G: StepGate, M: Resident>(
     directory: &Directory,
     scan: &mut DirectoryPass,
     cells: &Cells<M>,
@@ -141,24 +141,24 @@ fn scan_lane<G: StepGate, M: Resident>(
     gate: &G,
     mine: (Row, u8),
     direction: Direction,
-    lanes: (u32, u32),
+    sides: (u32, u32),
 ) -> Option<Found>
     requires here { IsPassOf cells.now pass.old × IsRowOf cells.now mine.0 }
     requires opened { Has pass.old.seen.held mine.0 × Has pass.old.seen.opened mine.0 }
     requires read { HaveDirection pass.old.seen.words mine.0 mine.1 direction }
     requires sits { Sits directory.now scan.old }
-    requires lane { lanes.1 < directory.now.lanes }
-    requires published { Published scan.old.me.0.marks mine.0.thread mine.0.sync lanes.0 }
+    requires side { sides.1 < directory.now.sides }
+    requires published { Published scan.old.me.0.marks mine.0.thread mine.0.sync sides.0 }
     ensures here { IsPassOf cells.now pass.new }
     ensures grows { Grows pass.old.seen pass.new.seen }
     ensures results { KeepsResults pass.old pass.new }
     ensures sits { Sits directory.now scan.new }
     ensures more { KnowsMore scan.old.me.0 scan.new.me.0 }
     ensures made { SearchMade mine.0 (found_or_left result) pass.old.made pass.new.made }
-    ensures found { IfSome result (ComesTo pass.new.seen mine.0 (IsLeft scan.new.me.0 pass.new.seen mine.0 direction lanes.0 lanes.1)) }
+    ensures found { IfSome result (ComesTo pass.new.seen mine.0 (IsLeft scan.new.me.0 pass.new.seen mine.0 direction sides.0 sides.1)) }
     ensures again { IfNone result (IsHeldUp cells.now scan.new.me.0 pass.old.seen pass.new.seen mine.0) }
 {
-    let word = directory.scan_lane(scan, lanes.1);
+    let word = directory.scan_side(scan, sides.1);
     let mut is_claimed = false;
     let mut from = 0;
     while let Some(other) = next_thread(word, from) {
@@ -167,7 +167,7 @@ fn scan_lane<G: StepGate, M: Resident>(
             continue;
         }
         match scan_thread(
-            directory, scan, cells, pass, gate, mine, direction, lanes, other,
+            directory, scan, cells, pass, gate, mine, direction, sides, other,
         ) {
             Some(Found::Left) => continue,
             Some(Found::Met(other)) => return Some(Found::Met(other)),
@@ -182,9 +182,9 @@ fn scan_lane<G: StepGate, M: Resident>(
     (!is_claimed).then_some(Found::Left)
 }
 
-/// The lane of an offer in this direction, and the opposite one.
-fn lanes(direction: Direction) -> Option<(u32, u32)>
-    ensures { result ≡ lanes_of direction }
+/// The side of an offer in this direction, and the opposite one.
+fn sides(direction: Direction) -> Option<(u32, u32)>
+    ensures { result ≡ sides_of direction }
 {
     match direction {
         Direction::Send { chan, .. } => Some((2 * u32::from(chan), 2 * u32::from(chan) + 1)),
@@ -202,7 +202,7 @@ pub fn publish(
     directions: &[Option<Direction>; 8],
 )
     requires sits { Sits directory.now scan.old }
-    requires all { (row.thread < 64) × (512 ≤ directory.now.lanes) }
+    requires all { (row.thread < 64) × (512 ≤ directory.now.sides) }
     ensures sits { Sits directory.now scan.new }
     ensures more { KnowsMore scan.old.me.0 scan.new.me.0 }
     ensures out { ArePublished scan.new.me.0.marks row directions.now }
@@ -215,15 +215,15 @@ pub fn publish(
     }
 }
 
-/// Puts the thread into the lane of an offer in this direction, if it has one.
+/// Puts the thread on the side of an offer in this direction, if it has one.
 fn offer(directory: &Directory, scan: &mut DirectoryPass, thread: u8, direction: Direction)
     requires sits { Sits directory.now scan.old }
-    requires all { (thread < 64) × (512 ≤ directory.now.lanes) }
+    requires all { (thread < 64) × (512 ≤ directory.now.sides) }
     ensures sits { Sits directory.now scan.new }
     ensures more { KnowsMore scan.old.me.0 scan.new.me.0 }
-    ensures offered { (l m : ℕ) → lanes_of direction ≡ Some (l, m) → Offered scan.new.me.0.marks thread l }
+    ensures offered { (l m : ℕ) → sides_of direction ≡ Some (l, m) → Offered scan.new.me.0.marks thread l }
 {
-    if let Some(own) = lanes(direction) {
+    if let Some(own) = sides(direction) {
         directory.offer(scan, thread, own.0);
     }
 }
@@ -243,8 +243,8 @@ fn scan_offer<G: StepGate, M: Resident>(
     requires here { IsPassOf cells.now pass.old × IsRowOf cells.now mine.0 }
     requires opened { Has pass.old.seen.held mine.0 × Has pass.old.seen.opened mine.0 }
     requires read { HaveDirection pass.old.seen.words mine.0 mine.1 direction }
-    requires sits { Sits directory.now scan.old × (512 ≤ directory.now.lanes) }
-    requires published { (l m : ℕ) → lanes_of direction ≡ Some (l, m) → Published scan.old.me.0.marks mine.0.thread mine.0.sync l }
+    requires sits { Sits directory.now scan.old × (512 ≤ directory.now.sides) }
+    requires published { (l m : ℕ) → sides_of direction ≡ Some (l, m) → Published scan.old.me.0.marks mine.0.thread mine.0.sync l }
     ensures here { IsPassOf cells.now pass.new }
     ensures grows { Grows pass.old.seen pass.new.seen }
     ensures results { KeepsResults pass.old pass.new }
@@ -254,8 +254,8 @@ fn scan_offer<G: StepGate, M: Resident>(
     ensures found { IfSome result (ComesTo pass.new.seen mine.0 (IsLeftFor scan.new.me.0 pass.new.seen mine.0 direction × (IsTrue alone → ¬ CanStandAlone pass.old.seen mine.0 mine.1))) }
     ensures again { IfNone result (IsHeldUp cells.now scan.new.me.0 pass.old.seen pass.new.seen mine.0) }
 {
-    match lanes(direction) {
-        Some(both) => scan_lane(directory, scan, cells, pass, gate, mine, direction, both),
+    match sides(direction) {
+        Some(both) => scan_side(directory, scan, cells, pass, gate, mine, direction, both),
         None if alone => Some(commit_alone(cells, pass, mine).unwrap_or(Found::Left)),
         None => Some(Found::Left),
     }
@@ -276,7 +276,7 @@ pub fn scan_offers<G: StepGate, M: Resident>(
     requires here { IsPassOf cells.now pass.old × IsRowOf cells.now row }
     requires opened { Has pass.old.seen.held row × Has pass.old.seen.opened row }
     requires read { AreRead pass.old.seen row directions.now }
-    requires sits { Sits directory.now scan.old × (512 ≤ directory.now.lanes) }
+    requires sits { Sits directory.now scan.old × (512 ≤ directory.now.sides) }
     requires out { ArePublished scan.old.me.0.marks row directions.now }
     ensures here { IsPassOf cells.now pass.new }
     ensures grows { Grows pass.old.seen pass.new.seen }
@@ -347,7 +347,7 @@ fn scan_wished<G: StepGate, M: Resident>(
         let Some(direction) = directions[usize::from(n)] else {
             return None;
         };
-        let Some(both) = lanes(direction) else {
+        let Some(both) = sides(direction) else {
             continue;
         };
         match scan_thread(
@@ -420,7 +420,7 @@ fn scan_from<G: StepGate, M: Resident>(
     requires here { IsPassOf cells.now pass.old × IsRowOf cells.now row }
     requires opened { Has pass.old.seen.held row × Has pass.old.seen.opened row }
     requires read { AreRead pass.old.seen row directions.now }
-    requires sits { Sits directory.now scan.old × (512 ≤ directory.now.lanes) }
+    requires sits { Sits directory.now scan.old × (512 ≤ directory.now.sides) }
     requires out { ArePublished scan.old.me.0.marks row directions.now }
     ensures here { IsPassOf cells.now pass.new }
     ensures grows { Grows pass.old.seen pass.new.seen }
@@ -456,7 +456,7 @@ pub fn search_once<G: StepGate, M: Resident>(
 ) -> Option<Found>
     requires here { IsPassOf cells.now pass.old × IsRowOf cells.now row }
     requires opened { Has pass.old.seen.held row × Has pass.old.seen.opened row }
-    requires sits { Sits directory.now scan.old × (512 ≤ directory.now.lanes) }
+    requires sits { Sits directory.now scan.old × (512 ≤ directory.now.sides) }
     ensures here { IsPassOf cells.now pass.new }
     ensures grows { Grows pass.old.seen pass.new.seen }
     ensures results { KeepsResults pass.old pass.new }

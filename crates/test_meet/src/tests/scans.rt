@@ -15,8 +15,8 @@ use meet_scan::{Found, search_once};
 use protocol_values::Offer;
 use std::test::Fail;
 
-/// How many lanes the directory has: two for each channel that an offer can name.
-const LANES: u32 = 512;
+/// How many sides the directory has: two for each channel that an offer can name.
+const SIDES: u32 = 512;
 
 /// A search begins with no thread.
 const NOBODY: u8 = 64;
@@ -33,7 +33,7 @@ fn search(
     requires here { IsPassOf cells.now pass.old × (cells.now.threads ≡ 2) × (cells.now.rows ≡ 1) × (thread < 2) }
     requires fresh { Has pass.old.seen.held (first_row thread) × (pass.old.seen.opened ≡ []) × (pass.old.seen.ended ≡ []) }
     requires offers { AreOffers offers.now }
-    requires sits { Sits directory.now scan.old × (512 ≤ directory.now.lanes) }
+    requires sits { Sits directory.now scan.old × (512 ≤ directory.now.sides) }
     ensures here { IsPassOf cells.now pass.new }
     ensures opened { Has pass.new.seen.held (first_row thread) × Has pass.new.seen.opened (first_row thread) }
     ensures sits { Sits directory.now scan.new }
@@ -55,7 +55,7 @@ fn search(
 #[test]
 fn the_second_of_two_rows_finds_the_first(rt: HostRuntime) -> Result<(), Fail> {
     let (cells, mut first, mut second) = table_of_two(rt.alloc(), 1)?;
-    let (directory, mut mine) = Directory::new(rt.alloc(), LANES)?;
+    let (directory, mut mine) = Directory::new(rt.alloc(), SIDES)?;
     let mut theirs = directory.another(&mut mine);
     let receives = [receive(0, 0), receive(1, 0)];
     let waits = search(&directory, &mut mine, &cells, &mut first, 0, &receives);
@@ -80,7 +80,7 @@ fn the_second_of_two_rows_finds_the_first(rt: HostRuntime) -> Result<(), Fail> {
 #[test]
 fn rows_that_do_not_meet_are_left(rt: HostRuntime) -> Result<(), Fail> {
     let (cells, mut first, mut second) = table_of_two(rt.alloc(), 1)?;
-    let (directory, mut mine) = Directory::new(rt.alloc(), LANES)?;
+    let (directory, mut mine) = Directory::new(rt.alloc(), SIDES)?;
     let mut theirs = directory.another(&mut mine);
     let sends = [send(0, 42), receive(1, 0)];
     let waits = search(&directory, &mut mine, &cells, &mut first, 0, &sends);
@@ -94,7 +94,7 @@ fn rows_that_do_not_meet_are_left(rt: HostRuntime) -> Result<(), Fail> {
 #[test]
 fn an_always_is_committed_alone(rt: HostRuntime) -> Result<(), Fail> {
     let (cells, mut first, _second) = table_of_two(rt.alloc(), 1)?;
-    let (directory, mut mine) = Directory::new(rt.alloc(), LANES)?;
+    let (directory, mut mine) = Directory::new(rt.alloc(), SIDES)?;
     let offers = [receive(0, 0), always()];
     let found = search(&directory, &mut mine, &cells, &mut first, 0, &offers);
     assert!(rt; found == Some(Found::Alone));

@@ -5,7 +5,7 @@ use Rattle.meet_scan.specs.declared.found.Found.TheVariants.{Already, Left, Met}
 use Rattle.meet_scan.proofs.Growing.{grows_nothing}
 use Rattle.meet_scan.proofs.Making.{found_made, none_made}
 use Rattle.meet_scan.proofs.Reading.{none_listed}
-use Rattle.meet_scan.proofs.Scanning.{comes_left, from_again, goes_then, have_more, held_by_more, lack_more, left_made, more_nothing, published_more, read_lacks, read_listed, tried_behind, tried_in_lane, tried_next, tried_nowhere}
+use Rattle.meet_scan.proofs.Scanning.{comes_left, from_again, goes_then, have_more, held_by_more, lack_more, left_made, more_nothing, published_more, read_lacks, read_listed, tried_behind, tried_in_side, tried_next, tried_nowhere}
 use Rattle.meet_scan.proofs.scan.scan_wished.Goals as goal
 
 -- the row has no such offer, and none behind it
@@ -20,9 +20,9 @@ returns-in_default-clause-tried g c low apart n few =
     let lacks = lack_more s t r c.loop-n.n i.0.grows (read_lacks s r c.args.directions.now c.loop-n.n c.loop-n-test.true c.requires.read none) in
     tried_behind c.args.cells.now c.loop-n.scan.me.0 s t r c.args.first c.loop-n.n lacks i.1 n
 
--- the offer has no lane
-pub loop-n-preserved-in_default-lanes : goal.loop-n-preserved-in_default-lanes
-loop-n-preserved-in_default-lanes g c =
+-- the offer has no side
+pub loop-n-preserved-in_default-sides : goal.loop-n-preserved-in_default-sides
+loop-n-preserved-in_default-sides g c =
     let i = c.loop-n.invariant in
     let s = c.args.pass.now.seen in
     let t = c.loop-n.pass.seen in
@@ -33,7 +33,7 @@ loop-n-preserved-in_default-lanes g c =
     let have = have_more s t r c.loop-n.n d i.0.grows (read_listed s r c.args.directions.now c.loop-n.n d c.loop-n-test.true c.requires.read listed) in (
       i.0,
       tried_next c.args.cells.now v v s t t r c.args.first c.loop-n.n (more_nothing v) (grows_nothing t) i.1
-          (inr (d, have, tried_nowhere c.args.cells.now v s t r d c.args.first (sym c.lanes.ensures ∙ none_listed c.lanes.result c.in_default-lanes.not-Some))),
+          (inr (d, have, tried_nowhere c.args.cells.now v s t r d c.args.first (sym c.sides.ensures ∙ none_listed c.sides.result c.in_default-sides.not-Some))),
     )
 
 pub scan_thread-requires-clause-read : goal.scan_thread-requires-clause-read
@@ -44,10 +44,10 @@ scan_thread-requires-clause-read g c =
 
 pub scan_thread-requires-clause-published : goal.scan_thread-requires-clause-published
 scan_thread-requires-clause-published g c =
-    let both = c.in-Some-lanes.both in
+    let both = c.in-Some-sides.both in
     let listed : Lists c.args.directions.now c.loop-n.n c.in-Some.direction = subst (λ (n : ℕ). Lists c.args.directions.now n c.in-Some.direction) c.from.ensures c.in-Some.is in
     published_more c.args.scan.now.me.0 c.loop-n.scan.me.0 c.args.row.thread c.args.row.sync both.0 c.loop-n.invariant.0.more
-    (c.requires.out c.loop-n.n c.in-Some.direction both.0 both.1 listed (sym c.lanes.ensures ∙ c.in-Some-lanes.is))
+    (c.requires.out c.loop-n.n c.in-Some.direction both.0 both.1 listed (sym c.sides.ensures ∙ c.in-Some-sides.is))
 
 -- each row of the thread was missed or passed by
 pub loop-n-preserved-in-Some-Left : goal.loop-n-preserved-in-Some-Left
@@ -61,7 +61,7 @@ loop-n-preserved-in-Some-Left g c =
     let w = c.scan_thread.new.scan.me.0 in
     let r = c.args.row in
     let d = c.in-Some.direction in
-    let both = c.in-Some-lanes.both in
+    let both = c.in-Some-sides.both in
     let listed : Lists c.args.directions.now c.loop-n.n d = subst (λ (n : ℕ). Lists c.args.directions.now n d) c.from.ensures c.in-Some.is in
     let have = have_more t u r c.loop-n.n d call.grows (have_more s t r c.loop-n.n d i.0.grows (read_listed s r c.args.directions.now c.loop-n.n d c.loop-n-test.true c.requires.read listed)) in
     let left : c.scan_thread.result ≡ Some Left = (search rules) in
@@ -69,7 +69,7 @@ loop-n-preserved-in-Some-Left g c =
       goes_then c.args.cells.now c.args.directory.now r c.args.pass.now c.loop-n.pass c.scan_thread.new.pass c.args.scan.now c.loop-n.scan c.scan_thread.new.scan i.0
           (record { here = call.here; grows = call.grows; results = call.results; sits = call.sits; more = call.more; made = left_made r c.loop-n.pass.made c.scan_thread.new.pass.made c.scan_thread.result left call.made }),
       tried_next c.args.cells.now v w s t u r c.args.first c.loop-n.n call.more call.grows i.1
-          (inr (d, have, tried_in_lane c.args.cells.now w s u r d both c.args.first (sym c.lanes.ensures ∙ c.in-Some-lanes.is) (inl done))),
+          (inr (d, have, tried_in_side c.args.cells.now w s u r d both c.args.first (sym c.sides.ensures ∙ c.in-Some-sides.is) (inl done))),
     )
 
 -- one was in the way
@@ -84,7 +84,7 @@ loop-n-preserved g c =
     let w = c.scan_thread.new.scan.me.0 in
     let r = c.args.row in
     let d = c.in-Some.direction in
-    let both = c.in-Some-lanes.both in
+    let both = c.in-Some-sides.both in
     let listed : Lists c.args.directions.now c.loop-n.n d = subst (λ (n : ℕ). Lists c.args.directions.now n d) c.from.ensures c.in-Some.is in
     let have = have_more t u r c.loop-n.n d call.grows (have_more s t r c.loop-n.n d i.0.grows (read_listed s r c.args.directions.now c.loop-n.n d c.loop-n-test.true c.requires.read listed)) in
     let none : c.scan_thread.result ≡ None = (search rules) in
@@ -92,7 +92,7 @@ loop-n-preserved g c =
       goes_then c.args.cells.now c.args.directory.now r c.args.pass.now c.loop-n.pass c.scan_thread.new.pass c.args.scan.now c.loop-n.scan c.scan_thread.new.scan i.0
           (record { here = call.here; grows = call.grows; results = call.results; sits = call.sits; more = call.more; made = none_made r c.loop-n.pass.made c.scan_thread.new.pass.made c.scan_thread.result none call.made }),
       tried_next c.args.cells.now v w s t u r c.args.first c.loop-n.n call.more call.grows i.1
-          (inr (d, have, tried_in_lane c.args.cells.now w s u r d both c.args.first (sym c.lanes.ensures ∙ c.in-Some-lanes.is) (inr held))),
+          (inr (d, have, tried_in_side c.args.cells.now w s u r d both c.args.first (sym c.sides.ensures ∙ c.in-Some-sides.is) (inr held))),
     )
 
 pub returns-clause-tried : goal.returns-clause-tried

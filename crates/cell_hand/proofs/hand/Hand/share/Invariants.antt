@@ -10,4 +10,4 @@ abbrev pub invariant-loop-pass : goal.invariant-loop-pass
 invariant-loop-pass l =
     (goal.iterator-loop-pass).can_next l.pass-iterator × (goal.iterator-loop-pass).is_finite l.pass-iterator
     × (map (λ h. h.pass) l.hands.items ++ into_iter_items l.pass-iterator ≡ l.fn.passes.items) × All (λ h. h.table ≡ l.table.value.cells) l.hands.items
-    × All (λ p. IsPassOf l.table.value.cells p) (into_iter_items l.pass-iterator) × Sits l.table.value.directory l.scan × (512 ≤ l.table.value.directory.lanes)
+    × All (λ p. IsPassOf l.table.value.cells p) (into_iter_items l.pass-iterator) × Sits l.table.value.directory l.scan × (512 ≤ l.table.value.directory.sides)

@@ -5,7 +5,7 @@ use Rattle.meet_scan.specs.declared.found.Found.TheVariants.{Alone, Already, Lef
 use Rattle.meet_scan.proofs.Growing.{grows_nothing}
 use Rattle.meet_scan.proofs.Making.{found_made, none_made}
 use Rattle.meet_scan.proofs.Scanning.{all_done, comes_left, done_next, done_to, from_again, goes_then, held_more, left_made, more_nothing, published_more, then_comes, then_none}
-use Rattle.meet_scan.proofs.scan.scan_lane.Goals as goal
+use Rattle.meet_scan.proofs.scan.scan_side.Goals as goal
 
 pub loop-other-preserved-then-other-mine : goal.loop-other-preserved-then-other-mine
 loop-other-preserved-then-other-mine g c =
@@ -18,13 +18,13 @@ loop-other-preserved-then-other-mine g c =
       i.0,
       i.1,
       omega (arith, next.1),
-      λ free. done_next v v s s r c.args.direction c.args.lanes.0 c.args.lanes.1 c.in-Some.other (more_nothing v) (grows_nothing s)
-          (done_to c.args.scan.now.me.0 v s r c.args.direction c.args.lanes.0 c.args.lanes.1 c.loop-other.from c.in-Some.other c.scan_lane-word.result c.requires.published i.1 next.3 (i.3 free)) (λ apart. absurd (apart own)),
+      λ free. done_next v v s s r c.args.direction c.args.sides.0 c.args.sides.1 c.in-Some.other (more_nothing v) (grows_nothing s)
+          (done_to c.args.scan.now.me.0 v s r c.args.direction c.args.sides.0 c.args.sides.1 c.loop-other.from c.in-Some.other c.scan_side-word.result c.requires.published i.1 next.3 (i.3 free)) (λ apart. absurd (apart own)),
       i.4,
     )
 
 pub scan_thread-requires-clause-published : goal.scan_thread-requires-clause-published
-scan_thread-requires-clause-published g c = published_more c.args.scan.now.me.0 c.loop-other.scan.me.0 c.args.mine.0.thread c.args.mine.0.sync c.args.lanes.0 c.loop-other.invariant.0.more c.requires.published
+scan_thread-requires-clause-published g c = published_more c.args.scan.now.me.0 c.loop-other.scan.me.0 c.args.mine.0.thread c.args.mine.0.sync c.args.sides.0 c.loop-other.invariant.0.more c.requires.published
 
 pub loop-other-preserved-in-Some-Left : goal.loop-other-preserved-in-Some-Left
 loop-other-preserved-in-Some-Left g c =
@@ -41,8 +41,8 @@ loop-other-preserved-in-Some-Left g c =
           (record { here = call.here; grows = call.grows; results = call.results; sits = call.sits; more = call.more; made = left_made r c.loop-other.pass.made c.scan_thread.new.pass.made c.scan_thread.result left call.made }),
       call.more.1 _ i.1,
       omega (arith, next.1),
-      λ free. done_next v w s t r c.args.direction c.args.lanes.0 c.args.lanes.1 c.in-Some.other call.more call.grows
-          (done_to c.args.scan.now.me.0 v s r c.args.direction c.args.lanes.0 c.args.lanes.1 c.loop-other.from c.in-Some.other c.scan_lane-word.result c.requires.published i.1 next.3 (i.3 free))
+      λ free. done_next v w s t r c.args.direction c.args.sides.0 c.args.sides.1 c.in-Some.other call.more call.grows
+          (done_to c.args.scan.now.me.0 v s r c.args.direction c.args.sides.0 c.args.sides.1 c.loop-other.from c.in-Some.other c.scan_side-word.result c.requires.published i.1 next.3 (i.3 free))
           (λ apart. comes_left t r _ c.scan_thread.result left call.found),
       λ claimed. held_more c.args.cells.now v w c.args.pass.now.seen c.args.pass.now.seen s t r call.more (grows_nothing c.args.pass.now.seen) call.grows (i.4 claimed),
     )
@@ -71,8 +71,8 @@ returns-clause-found g c =
     let s = c.loop-other.pass.seen in
     let r = c.args.mine.0 in
     then_comes s r _ c.loop-other.is_claimed c.then_some.result c.then_some.ensures
-    (λ free. all_done w s r c.args.direction c.args.lanes.0 c.args.lanes.1 64 (omega arith)
-    (done_to c.args.scan.now.me.0 w s r c.args.direction c.args.lanes.0 c.args.lanes.1 c.loop-other.from 64 c.scan_lane-word.result c.requires.published i.1 c.in_default.ensures (i.3 free)))
+    (λ free. all_done w s r c.args.direction c.args.sides.0 c.args.sides.1 64 (omega arith)
+    (done_to c.args.scan.now.me.0 w s r c.args.direction c.args.sides.0 c.args.sides.1 c.loop-other.from 64 c.scan_side-word.result c.requires.published i.1 c.in_default.ensures (i.3 free)))
 
 pub returns-in-Some-Met-clause-made : goal.returns-in-Some-Met-clause-made
 returns-in-Some-Met-clause-made g c = found_made c.args.mine.0 c.in-Some-Met.field-0 (Met c.in-Some-Met.other) c.args.pass.now.made c.loop-other.pass.made c.scan_thread.new.pass.made c.in-Some-Met.field-0-is c.loop-other.invariant.0.made c.in-Some-Met.ensures.made
