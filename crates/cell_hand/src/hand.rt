@@ -12,10 +12,9 @@ ghost use Rattle.cell_hand.specs.Calls.{AreHands, CanDeal, IsDealt};
 ghost use Rattle.cell_hand.specs.declared.refusal.Refusal.TheVariants.{Memory, NoRow, NotHeld, Range};
 
 use crate::refusal::Refusal;
-use protocol_ledger::Bare;
 use cell::{Cells, Pass};
 use meet_directory::{Directory, DirectoryPass};
-use protocol_ledger::Ledger;
+use protocol_ledger::{Bare, Ledger};
 use protocol_values::{Cell, Course, Offer, Row};
 use std::alloc::Global;
 use std::marker::Model;

@@ -12,8 +12,8 @@ ghost use Rattle.cell_hand.specs.Hands.{CanAttempt};
 use crate::hand::Hand;
 use crate::refusal::Refusal;
 use cell::{Attempt, Cells, Grant, NoGate, Pass};
-use protocol_ledger::Bare;
 use meet_scan::{Found, saw_committed, search_once};
+use protocol_ledger::Bare;
 use protocol_values::{Cell, Joined, Offer, Row};
 
 impl Hand {

@@ -4,7 +4,7 @@ use Rattle.std.proofs.lemmas.List.{append_assoc, append-nil, map-append}
 use Rattle.std.specs.Prelude.{IfOk, MatchOption, MatchResult, Result, Ok, Err, Option}
 use Rattle.cell_table.specs.Sight.{Has}
 use Rattle.meet_queues.specs.declared.entries.Entry.{Entry}
-use Rattle.meet_queues.specs.declared.entries.Hand.{Hand}
+use Rattle.meet_queues.specs.declared.entries.QueueView.{QueueView}
 use Rattle.meet_queues.specs.declared.lane.LanePass.{LanePass}
 use Rattle.meet_queues.specs.Hands.{WasEmpty}
 use Rattle.meet_queues.specs.Lanes.{HasTaken, IsSame, Offered, entry, hand_of}
@@ -17,10 +17,10 @@ nothing_more : (p q : LanePass) → q.count ≡ p.count → (hand_of q).put ≡ 
 nothing_more p q count same = (omega arith, ([], same_puts p q same ∙ sym (append-nil (offers_put p))))
 
 pub same_puts_on : (p q : LanePass) → IsSame p q → PutsOn p q
-same_puts_on p q same = nothing_more p q same.1 (ap (λ (h : Hand Offered). h.put) same.2)
+same_puts_on p q same = nothing_more p q same.1 (ap (λ (h : QueueView Offered). h.put) same.2)
 
 pub taken_puts_on : (p q : LanePass) (waiting : Offered) → HasTaken p q waiting → PutsOn p q
-taken_puts_on p q waiting taken = nothing_more p q taken.1 (ap (λ (h : Hand Offered). h.put) taken.2.2)
+taken_puts_on p q waiting taken = nothing_more p q taken.1 (ap (λ (h : QueueView Offered). h.put) taken.2.2)
 
 puts_one : (p q : LanePass) (waiting : Offered) → (hand_of q).put ≡ (hand_of p).put ++ entry waiting p ∷ [] → offers_put q ≡ offers_put p ++ waiting ∷ []
 puts_one p q waiting put =
@@ -29,11 +29,11 @@ puts_one p q waiting put =
 pub joins_on : (p q : LanePass) (waiting : Offered) → Joins p q waiting → PutsOn p q
 joins_on p q waiting (inl put) =
     let counts : q.count ≡ p.count + 1 = put.1.1 in
-    (omega arith, (waiting ∷ [], puts_one p q waiting (ap (λ (h : Hand Offered). h.put) put.1.2)))
+    (omega arith, (waiting ∷ [], puts_one p q waiting (ap (λ (h : QueueView Offered). h.put) put.1.2)))
 joins_on p q waiting (inr full) = same_puts_on p q full.1
 
 pub joins_put : (p q : LanePass) (waiting : Offered) → Joins p q waiting → PutMeanwhile p q waiting
-joins_put p q waiting (inl put) = inl (waiting ∷ [], puts_one p q waiting (ap (λ (h : Hand Offered). h.put) put.1.2), inl refl)
+joins_put p q waiting (inl put) = inl (waiting ∷ [], puts_one p q waiting (ap (λ (h : QueueView Offered). h.put) put.1.2), inl refl)
 joins_put p q waiting (inr full) = inr (let count = full.0 in let same : q.count ≡ p.count = full.1.1 in omega arith)
 
 pub on_nothing : (p : LanePass) → PutsOn p p

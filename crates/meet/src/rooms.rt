@@ -10,9 +10,9 @@ ghost use Rattle.meet_scan.specs.Steps.{OnlyLooks};
 
 use crate::queue::Queue;
 use cell::{Cells, Pass};
-use protocol_ledger::Resident;
 use crossbeam_utils::CachePadded;
 use meet_queues::{Lane, LanePass, WaitingOffer};
+use protocol_ledger::Resident;
 use std::alloc::{AllocError, Global};
 use std::sync::Wait;
 use std::sync::atomic::{AtomicU64, AtomicUsize, Ordering};

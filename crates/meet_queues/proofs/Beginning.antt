@@ -8,7 +8,7 @@ use Rattle.atomic_blocks.specs.Lent.{RowsId}
 use Rattle.std.specs.declared.alloc.Global.{Global}
 use Rattle.protocol_values.specs.declared.Row.{Row}
 use Rattle.meet_queues.specs.declared.entries.Entry.{Entry}
-use Rattle.meet_queues.specs.declared.entries.Hand.{Hand}
+use Rattle.meet_queues.specs.declared.entries.QueueView.{QueueView}
 use Rattle.meet_queues.specs.declared.ends.ReadyEnd.{ReadyEnd}
 use Rattle.meet_queues.specs.declared.ready.Ready.{Ready}
 use Rattle.meet_queues.specs.Ends.{IsEndOf, IsFresh, IsNewEnd, IsNewOther, IsOther, all_but, deque_of, got_of, own_deque_of, own_hand, shared_hand}
@@ -18,13 +18,13 @@ pub end_of : (ready : Ready) (n : ℕ) (e : ReadyEnd) → IsFresh ready n e → 
 end_of ready n e fresh others = record {
   fifo = fresh.fifo;
   own = (
-    ap (λ (v : Hand Row). v.number) fresh.own ∙ ap (λ (k : ℕ). Some k) (sym fresh.number),
-    (let none : (own_hand e).below ≡ 0 = ap (λ (v : Hand Row). v.below) fresh.own in omega arith),
+    ap (λ (v : QueueView Row). v.number) fresh.own ∙ ap (λ (k : ℕ). Some k) (sym fresh.number),
+    (let none : (own_hand e).below ≡ 0 = ap (λ (v : QueueView Row). v.below) fresh.own in omega arith),
   );
   inlet = fresh.inlet;
   shared = (
-    ap (λ (v : Hand Row). v.number) fresh.shared ∙ ap (λ (k : ℕ). Some k) (sym fresh.number),
-    (let none : (shared_hand e).below ≡ 0 = ap (λ (v : Hand Row). v.below) fresh.shared in omega arith),
+    ap (λ (v : QueueView Row). v.number) fresh.shared ∙ ap (λ (k : ℕ). Some k) (sym fresh.number),
+    (let none : (shared_hand e).below ≡ 0 = ap (λ (v : QueueView Row). v.below) fresh.shared in omega arith),
   );
   others = All-weaker IsNewOther IsOther (λ o is. is.0) e.others.items others;
 }
@@ -37,11 +37,11 @@ pub new_end : (ready : Ready) (ends : List ReadyEnd) (ds : List (RowsId × Globa
 new_end ready ends ds n e fresh others steals is = (
   fresh.number,
   fresh.count,
-  ap (λ (v : Hand Row). v.put) fresh.own,
-  ap (λ (v : Hand Row). v.put) fresh.shared,
-  All-cons Nothing (own_hand e).got ((shared_hand e).got ∷ map got_of e.others.items) (ap (λ (v : Hand Row). v.got) fresh.own)
-      (All-cons Nothing (shared_hand e).got (map got_of e.others.items) (ap (λ (v : Hand Row). v.got) fresh.shared)
-      (All-map Nothing got_of e.others.items (All-weaker IsNewOther (λ o. Nothing (got_of o)) (λ o is_. ap (λ (v : Hand Row). v.got) is_.1) e.others.items others))),
+  ap (λ (v : QueueView Row). v.put) fresh.own,
+  ap (λ (v : QueueView Row). v.put) fresh.shared,
+  All-cons Nothing (own_hand e).got ((shared_hand e).got ∷ map got_of e.others.items) (ap (λ (v : QueueView Row). v.got) fresh.own)
+      (All-cons Nothing (shared_hand e).got (map got_of e.others.items) (ap (λ (v : QueueView Row). v.got) fresh.shared)
+      (All-map Nothing got_of e.others.items (All-weaker IsNewOther (λ o. Nothing (got_of o)) (λ o is_. ap (λ (v : QueueView Row). v.got) is_.1) e.others.items others))),
   steals ∙ ap (λ (l : List (RowsId × Global)). all_but n l) (sym is),
 )
 

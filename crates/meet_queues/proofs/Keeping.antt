@@ -7,7 +7,7 @@ use mathlib.Core.Option.{some, some-ne-none}
 use lib.ListN.{get_elem?}
 use Rattle.atomic_table.proofs.Lists.{at_set}
 use Rattle.meet_queues.specs.declared.entries.Entry.{Entry}
-use Rattle.meet_queues.specs.declared.entries.Hand.{Hand}
+use Rattle.meet_queues.specs.declared.entries.QueueView.{QueueView}
 use Rattle.meet_queues.specs.Hands.{Before, Fits, HandsOver, InOrder, IsPast, after_deal, dealer, dealt, following, gets, is_of, puts, settled, taker, total, weigh}
 use Rattle.meet_queues.proofs.Ordering.{all_parts, in_order_end, in_order_push, in_order_without}
 
@@ -32,7 +32,7 @@ changed_else : (f : ℕ → ℕ) (k value n : ℕ) → n ≢ k → changed f k v
 changed_else f k value n other = ap (λ (b : Bool). cond b value (f n)) (ne_eqb n k other)
 
 module _ {T : Type 0} where
-  some_inj : (a b : Hand T) → some a ≡ some b → a ≡ b
+  some_inj : (a b : QueueView T) → some a ≡ some b → a ≡ b
   some_inj a b h = cc
 
   -- WEIGHTS
@@ -40,16 +40,16 @@ module _ {T : Type 0} where
   weigh_append h [] ys = omega arith
   weigh_append h (x ∷ xs) ys = let p = weigh_append h xs ys in omega arith
 
-  total_snoc : (f : Hand T → ℕ) (vs : List (Hand T)) (w : Hand T) → total f (vs ++ w ∷ []) ≡ total f vs + f w
+  total_snoc : (f : QueueView T → ℕ) (vs : List (QueueView T)) (w : QueueView T) → total f (vs ++ w ∷ []) ≡ total f vs + f w
   total_snoc f [] w = omega arith
   total_snoc f (v ∷ vs) w = let p = total_snoc f vs w in omega arith
 
-  total_set : (f : Hand T → ℕ) (vs : List (Hand T)) (port : ℕ) (v w : Hand T) → get_elem? vs port ≡ some v → total f (set vs port w) + f v ≡ total f vs + f w
+  total_set : (f : QueueView T → ℕ) (vs : List (QueueView T)) (port : ℕ) (v w : QueueView T) → get_elem? vs port ≡ some v → total f (set vs port w) + f v ≡ total f vs + f w
   total_set f [] port v w e = absurd (some-ne-none v (sym e))
   total_set f (x ∷ vs) zero v w e = let p : f x ≡ f v = ap f (some_inj x v e) in omega arith
   total_set f (x ∷ vs) (suc port) v w e = let p = total_set f vs port v w e in omega arith
 
-  total_none : (f : Hand T → ℕ) (vs : List (Hand T)) → ((port : ℕ) (v : Hand T) → get_elem? vs port ≡ some v → f v ≡ 0) → total f vs ≡ 0
+  total_none : (f : QueueView T → ℕ) (vs : List (QueueView T)) → ((port : ℕ) (v : QueueView T) → get_elem? vs port ≡ some v → f v ≡ 0) → total f vs ≡ 0
   total_none f [] none = refl
   total_none f (v ∷ vs) none = let p = none 0 v refl in let q = total_none f vs (λ port u e. none (suc port) u e) in omega arith
 
@@ -71,28 +71,28 @@ module _ {T : Type 0} where
       cases false = omega arith
 
   -- HANDS
-  abbrev Each : (ℕ → Hand T → Type 0) → List (Hand T) → Type 0
-  Each F vs = (port : ℕ) (v : Hand T) → get_elem? vs port ≡ some v → F port v
+  abbrev Each : (ℕ → QueueView T → Type 0) → List (QueueView T) → Type 0
+  Each F vs = (port : ℕ) (v : QueueView T) → get_elem? vs port ≡ some v → F port v
 
-  each_set : (F : ℕ → Hand T → Type 0) (vs : List (Hand T)) (port : ℕ) (w : Hand T) → F port w → ((j : ℕ) (u : Hand T) → j ≢ port → get_elem? vs j ≡ some u → F j u) → Each F (set vs port w)
-  each_set F vs port w mine others j u e = ⊎_elim (λ (x : (j ≡ port) × (w ≡ u)). subst (λ (y : ℕ × Hand T). F y.0 y.1) (λ i. (sym x.0 i, x.1 i)) mine)
+  each_set : (F : ℕ → QueueView T → Type 0) (vs : List (QueueView T)) (port : ℕ) (w : QueueView T) → F port w → ((j : ℕ) (u : QueueView T) → j ≢ port → get_elem? vs j ≡ some u → F j u) → Each F (set vs port w)
+  each_set F vs port w mine others j u e = ⊎_elim (λ (x : (j ≡ port) × (w ≡ u)). subst (λ (y : ℕ × QueueView T). F y.0 y.1) (λ i. (sym x.0 i, x.1 i)) mine)
       (λ (x : (j ≢ port) × (get_elem? vs j ≡ some u)). others j u x.0 x.1) (at_set vs port j w u e)
 
-  snoc : (vs : List (Hand T)) (a b : Hand T) (j : ℕ) → get_elem? (vs ++ a ∷ []) j ≡ some b → (get_elem? vs j ≡ some b) ⊎ ((j ≡ length vs) × (a ≡ b))
+  snoc : (vs : List (QueueView T)) (a b : QueueView T) (j : ℕ) → get_elem? (vs ++ a ∷ []) j ≡ some b → (get_elem? vs j ≡ some b) ⊎ ((j ≡ length vs) × (a ≡ b))
   snoc [] a b zero e = inr (refl, some_inj a b e)
   snoc [] a b (suc j) e = absurd (some-ne-none b (sym e))
   snoc (v ∷ vs) a b zero e = inl e
   snoc (v ∷ vs) a b (suc j) e = ⊎_elim (λ (x : get_elem? vs j ≡ some b). inl x) (λ (x : (j ≡ length vs) × (a ≡ b)). inr (ap suc x.0, x.1)) (snoc vs a b j e)
 
-  each_snoc : (F : ℕ → Hand T → Type 0) (vs : List (Hand T)) (w : Hand T) → Each F vs → F (length vs) w → Each F (vs ++ w ∷ [])
+  each_snoc : (F : ℕ → QueueView T → Type 0) (vs : List (QueueView T)) (w : QueueView T) → Each F vs → F (length vs) w → Each F (vs ++ w ∷ [])
   each_snoc F vs w old new j u e = ⊎_elim (λ (x : get_elem? vs j ≡ some u). old j u x)
-      (λ (x : (j ≡ length vs) × (w ≡ u)). subst (λ (y : ℕ × Hand T). F y.0 y.1) (λ i. (sym x.0 i, x.1 i)) new) (snoc vs w u j e)
+      (λ (x : (j ≡ length vs) × (w ≡ u)). subst (λ (y : ℕ × QueueView T). F y.0 y.1) (λ i. (sym x.0 i, x.1 i)) new) (snoc vs w u j e)
 
   none_put : (P : Entry T → Type 0) → All P []
   none_put P = All-nil P
 
   -- a hand that neither deals, puts nor got anything fits wherever its number does
-  new_fits : (deals next : ℕ) (hand_of counts : ℕ → ℕ) (items : List (Entry T)) (port : ℕ) (v : Hand T) → v.next ≡ None → v.put ≡ [] → v.got ≡ [] → InOrder items
+  new_fits : (deals next : ℕ) (hand_of counts : ℕ → ℕ) (items : List (Entry T)) (port : ℕ) (v : QueueView T) → v.next ≡ None → v.put ≡ [] → v.got ≡ [] → InOrder items
       → ((n : ℕ) → v.number ≡ Some n → (n < next) × (port ≡ hand_of n) × (v.below ≡ counts n)) → Fits deals next hand_of counts items port v
   new_fits deals next hand_of counts items port v no_next no_put no_got ordered numbered = record {
     dealing = λ k p. absurd (none_some k (sym no_next ∙ p));
@@ -130,7 +130,7 @@ module _ {T : Type 0} where
       first (suc port) v e = absurd (some-ne-none v (sym e))
 
   -- a hand without a number may come
-  pub admitted : (items : List (Entry T)) (views : List (Hand T)) → HandsOver items views → HandsOver items (views ++ taker ∷ [])
+  pub admitted : (items : List (Entry T)) (views : List (QueueView T)) → HandsOver items views → HandsOver items (views ++ taker ∷ [])
   admitted items views r = record {
     deals = r.deals;
     next = r.next;
@@ -141,31 +141,31 @@ module _ {T : Type 0} where
     in_order = r.in_order;
     each = each_snoc (Fits r.deals r.next r.hand_of r.counts items) views taker r.each
         (new_fits r.deals r.next r.hand_of r.counts items (length views) taker refl refl refl r.in_order (λ n p. absurd (none_some n p)));
-    once = λ end count. let p = total_snoc (λ (v : Hand T). weigh (is_of end count) v.put) views taker in let q = r.once end count in omega arith;
-    kept = λ h. let p = total_snoc (λ (v : Hand T). weigh h v.put) views taker in let q = total_snoc (λ (v : Hand T). weigh h v.got) views taker in let s = r.kept h in omega arith;
+    once = λ end count. let p = total_snoc (λ (v : QueueView T). weigh (is_of end count) v.put) views taker in let q = r.once end count in omega arith;
+    kept = λ h. let p = total_snoc (λ (v : QueueView T). weigh h v.put) views taker in let q = total_snoc (λ (v : QueueView T). weigh h v.got) views taker in let s = r.kept h in omega arith;
   }
 
   -- NUMBERS ARE DEALT
-  abbrev Numbered : ℕ → (ℕ → ℕ) → (ℕ → ℕ) → ℕ → Hand T → Type 0
+  abbrev Numbered : ℕ → (ℕ → ℕ) → (ℕ → ℕ) → ℕ → QueueView T → Type 0
   Numbered next hand_of counts port v = (n : ℕ) → v.number ≡ Some n → (n < next) × (port ≡ hand_of n) × (v.below ≡ counts n)
 
-  numbered_still : (next : ℕ) (hand_of counts : ℕ → ℕ) (new port : ℕ) (v : Hand T) → Numbered next hand_of counts port v → Numbered (suc next) (changed hand_of next new) counts port v
+  numbered_still : (next : ℕ) (hand_of counts : ℕ → ℕ) (new port : ℕ) (v : QueueView T) → Numbered next hand_of counts port v → Numbered (suc next) (changed hand_of next new) counts port v
   numbered_still next hand_of counts new port v old n is =
       let was = old n is in
       let less = was.0 in
       (omega arith, was.1 ∙ sym (changed_else hand_of next new n (λ (e : n ≡ next). omega arith)), was.2)
 
-  numbered_new : (next : ℕ) (hand_of counts : ℕ → ℕ) (new : ℕ) (v : Hand T) → v.number ≡ Some next → v.below ≡ counts next → Numbered (suc next) (changed hand_of next new) counts new v
+  numbered_new : (next : ℕ) (hand_of counts : ℕ → ℕ) (new : ℕ) (v : QueueView T) → v.number ≡ Some next → v.below ≡ counts next → Numbered (suc next) (changed hand_of next new) counts new v
   numbered_new next hand_of counts new v is below n also =
       let same : n ≡ next = number_inj n next (sym also ∙ is) in
       (omega arith, sym (changed_here hand_of next new) ∙ ap (changed hand_of next new) (sym same), below ∙ ap counts (sym same))
 
-  total_forked : (f : Hand T → ℕ) (vs : List (Hand T)) (port : ℕ) (v left right : Hand T) → get_elem? vs port ≡ some v → f left ≡ f v → f right ≡ 0 → total f (set vs port left ++ right ∷ []) ≡ total f vs
+  total_forked : (f : QueueView T → ℕ) (vs : List (QueueView T)) (port : ℕ) (v left right : QueueView T) → get_elem? vs port ≡ some v → f left ≡ f v → f right ≡ 0 → total f (set vs port left ++ right ∷ []) ≡ total f vs
   total_forked f vs port v left right at same none =
       let p = total_set f vs port v left at in let q = total_snoc f (set vs port left) right in omega arith
 
   -- the dealer stays the only one
-  others_still : (deals next : ℕ) (hand_of counts : ℕ → ℕ) (items : List (Entry T)) (new port : ℕ) (u : Hand T) → (¬ (port ≡ deals)) → Fits deals next hand_of counts items port u → Fits deals (suc next) (changed hand_of next new) counts items port u
+  others_still : (deals next : ℕ) (hand_of counts : ℕ → ℕ) (items : List (Entry T)) (new port : ℕ) (u : QueueView T) → (¬ (port ≡ deals)) → Fits deals next hand_of counts items port u → Fits deals (suc next) (changed hand_of next new) counts items port u
   others_still deals next hand_of counts items new port u other fits = record {
     dealing = λ k p. absurd (other (fits.dealing k p).0);
     numbered = numbered_still next hand_of counts new port u fits.numbered;
@@ -175,12 +175,12 @@ module _ {T : Type 0} where
     in_order = fits.in_order;
   }
 
-  pub deals : (port : ℕ) (v : Hand T) (k : ℕ) → v.next ≡ Some k → (items : List (Entry T)) (views : List (Hand T)) → HandsOver items views → get_elem? views port ≡ some v → HandsOver items (set views port (after_deal v) ++ dealt v ∷ [])
+  pub deals : (port : ℕ) (v : QueueView T) (k : ℕ) → v.next ≡ Some k → (items : List (Entry T)) (views : List (QueueView T)) → HandsOver items views → get_elem? views port ≡ some v → HandsOver items (set views port (after_deal v) ++ dealt v ∷ [])
   deals port v k is items views r at =
       let mine = r.each port v at in
       let dealing = mine.dealing k is in
-      let vs : List (Hand T) = set views port (after_deal v) in
-      let F : ℕ → Hand T → Type 0 = Fits r.deals (suc r.next) (changed r.hand_of r.next (length vs)) r.counts items in
+      let vs : List (QueueView T) = set views port (after_deal v) in
+      let F : ℕ → QueueView T → Type 0 = Fits r.deals (suc r.next) (changed r.hand_of r.next (length vs)) r.counts items in
       record {
         deals = r.deals;
         next = suc r.next;
@@ -202,17 +202,17 @@ module _ {T : Type 0} where
             (λ j u other e. others_still r.deals r.next r.hand_of r.counts items (length vs) j u (λ (same : j ≡ r.deals). other (same ∙ sym dealing.0)) (r.each j u e)))
             (new_fits r.deals (suc r.next) (changed r.hand_of r.next (length vs)) r.counts items (length vs) (dealt v) refl refl refl r.in_order
             (numbered_new r.next r.hand_of r.counts (length vs) (dealt v) (is ∙ ap (λ (n : ℕ). Some n) dealing.1) (sym (r.undealt r.next (omega arith)))));
-        once = λ end count. let p = total_forked (λ (u : Hand T). weigh (is_of end count) u.put) views port v (after_deal v) (dealt v) at refl refl in let q = r.once end count in omega arith;
-        kept = λ h. let p = total_forked (λ (u : Hand T). weigh h u.put) views port v (after_deal v) (dealt v) at refl refl in let q = total_forked (λ (u : Hand T). weigh h u.got) views port v (after_deal v) (dealt v) at refl refl in let s = r.kept h in omega arith;
+        once = λ end count. let p = total_forked (λ (u : QueueView T). weigh (is_of end count) u.put) views port v (after_deal v) (dealt v) at refl refl in let q = r.once end count in omega arith;
+        kept = λ h. let p = total_forked (λ (u : QueueView T). weigh h u.put) views port v (after_deal v) (dealt v) at refl refl in let q = total_forked (λ (u : QueueView T). weigh h u.got) views port v (after_deal v) (dealt v) at refl refl in let s = r.kept h in omega arith;
       }
 
-  pub settles : (port : ℕ) (v : Hand T) (k : ℕ) → v.next ≡ Some k → v.put ≡ [] → v.below ≡ 0 → (items : List (Entry T)) (views : List (Hand T)) → HandsOver items views → get_elem? views port ≡ some v
+  pub settles : (port : ℕ) (v : QueueView T) (k : ℕ) → v.next ≡ Some k → v.put ≡ [] → v.below ≡ 0 → (items : List (Entry T)) (views : List (QueueView T)) → HandsOver items views → get_elem? views port ≡ some v
       → HandsOver items (set views port (settled v) ++ taker ∷ [])
   settles port v k is nothing below items views r at =
       let mine = r.each port v at in
       let dealing = mine.dealing k is in
-      let vs : List (Hand T) = set views port (settled v) in
-      let F : ℕ → Hand T → Type 0 = Fits r.deals (suc r.next) (changed r.hand_of r.next port) r.counts items in
+      let vs : List (QueueView T) = set views port (settled v) in
+      let F : ℕ → QueueView T → Type 0 = Fits r.deals (suc r.next) (changed r.hand_of r.next port) r.counts items in
       record {
         deals = r.deals;
         next = suc r.next;
@@ -233,21 +233,21 @@ module _ {T : Type 0} where
             })
             (λ j u other e. others_still r.deals r.next r.hand_of r.counts items port j u (λ (same : j ≡ r.deals). other (same ∙ sym dealing.0)) (r.each j u e)))
             (new_fits r.deals (suc r.next) (changed r.hand_of r.next port) r.counts items (length vs) taker refl refl refl r.in_order (λ n p. absurd (none_some n p)));
-        once = λ end count. let p = total_forked (λ (u : Hand T). weigh (is_of end count) u.put) views port v (settled v) taker at refl refl in let q = r.once end count in omega arith;
-        kept = λ h. let p = total_forked (λ (u : Hand T). weigh h u.put) views port v (settled v) taker at refl refl in let q = total_forked (λ (u : Hand T). weigh h u.got) views port v (settled v) taker at refl refl in let s = r.kept h in omega arith;
+        once = λ end count. let p = total_forked (λ (u : QueueView T). weigh (is_of end count) u.put) views port v (settled v) taker at refl refl in let q = r.once end count in omega arith;
+        kept = λ h. let p = total_forked (λ (u : QueueView T). weigh h u.put) views port v (settled v) taker at refl refl in let q = total_forked (λ (u : QueueView T). weigh h u.got) views port v (settled v) taker at refl refl in let s = r.kept h in omega arith;
       }
 
   -- ENTRIES ARE PUT
   -- whoever has the number of the end has put less than so many entries: so nobody has put this one
-  new_entry : (items : List (Entry T)) (views : List (Hand T)) (port : ℕ) (v : Hand T) (e : Entry T) → HandsOver items views → get_elem? views port ≡ some v → v.number ≡ Some e.end → v.below ≤ e.count
-      → total (λ (u : Hand T). weigh (is_of e.end e.count) u.put) views ≡ 0
-  new_entry items views port v e r at number fewer = total_none (λ (u : Hand T). weigh (is_of e.end e.count) u.put) views each
+  new_entry : (items : List (Entry T)) (views : List (QueueView T)) (port : ℕ) (v : QueueView T) (e : Entry T) → HandsOver items views → get_elem? views port ≡ some v → v.number ≡ Some e.end → v.below ≤ e.count
+      → total (λ (u : QueueView T). weigh (is_of e.end e.count) u.put) views ≡ 0
+  new_entry items views port v e r at number fewer = total_none (λ (u : QueueView T). weigh (is_of e.end e.count) u.put) views each
     where
-      each : (j : ℕ) (u : Hand T) → get_elem? views j ≡ some u → weigh (is_of e.end e.count) u.put ≡ 0
+      each : (j : ℕ) (u : QueueView T) → get_elem? views j ≡ some u → weigh (is_of e.end e.count) u.put ≡ 0
       each j u there = ⊎_elim
           (λ (same : eqb j port ≡ true).
           let is : u ≡ v = some_inj u v (sym there ∙ ap (get_elem? views) (eqb-true j port same) ∙ at) in
-          ap (λ (w : Hand T). weigh (is_of e.end e.count) w.put) is
+          ap (λ (w : QueueView T). weigh (is_of e.end e.count) w.put) is
           ∙ weigh_none (is_of e.end e.count) (λ (x : Entry T). x.count < v.below) v.put (λ x less. is_of_other e.end e.count x (λ p q. let low : x.count < v.below = less in omega arith)) (r.each port v at).early)
           (λ (other : eqb j port ≡ false).
           weigh_none (is_of e.end e.count) (λ (x : Entry T). u.number ≡ Some x.end) u.put
@@ -278,7 +278,7 @@ module _ {T : Type 0} where
   past_in_order : (counts : ℕ → ℕ) (xs : List (Entry T)) (e : Entry T) → counts e.end ≤ e.count → All (IsPast counts) xs → InOrder xs → InOrder (xs ++ e ∷ [])
   past_in_order counts xs e grown past ordered = in_order_push xs e ordered (All-weaker (IsPast counts) (λ (x : Entry T). Before x e) (λ x p. past_before counts e x grown p) xs past)
 
-  put_fits : (deals next : ℕ) (hand_of counts : ℕ → ℕ) (items : List (Entry T)) (port : ℕ) (u : Hand T) (e : Entry T) → Fits deals next hand_of counts items port u → counts e.end ≤ e.count → All (IsPast counts) items
+  put_fits : (deals next : ℕ) (hand_of counts : ℕ → ℕ) (items : List (Entry T)) (port : ℕ) (u : QueueView T) (e : Entry T) → Fits deals next hand_of counts items port u → counts e.end ≤ e.count → All (IsPast counts) items
       → Numbered next hand_of (changed counts e.end (suc e.count)) port u → Fits deals next hand_of (changed counts e.end (suc e.count)) (items ++ e ∷ []) port u
   put_fits deals next hand_of counts items port u e fits grown past numbered = record {
     dealing = fits.dealing;
@@ -289,10 +289,10 @@ module _ {T : Type 0} where
     in_order = subst InOrder (append_assoc u.got items (e ∷ [])) (past_in_order counts (u.got ++ items) e grown (All-append (IsPast counts) u.got items fits.past past) fits.in_order);
   }
 
-  pub put_kept : (port : ℕ) (v : Hand T) (e : Entry T) → v.number ≡ Some e.end → v.below ≤ e.count → (items : List (Entry T)) (views : List (Hand T)) → HandsOver items views → get_elem? views port ≡ some v
+  pub put_kept : (port : ℕ) (v : QueueView T) (e : Entry T) → v.number ≡ Some e.end → v.below ≤ e.count → (items : List (Entry T)) (views : List (QueueView T)) → HandsOver items views → get_elem? views port ≡ some v
       → HandsOver (items ++ e ∷ []) (set views port (puts v e))
   put_kept port v e number fewer items views r at =
-      let w : Hand T = puts v e in
+      let w : QueueView T = puts v e in
       let mine = r.each port v at in
       let own = mine.numbered e.end number in
       let is_below : v.below ≡ r.counts e.end = own.2 in
@@ -325,21 +325,21 @@ module _ {T : Type 0} where
             (was.0, was.1, was.2 ∙ sym (changed_else r.counts e.end (suc e.count) n (λ (p : n ≡ e.end). other (was.1 ∙ ap r.hand_of p ∙ sym own.1))))));
         once = one;
         kept = λ h.
-            let p = total_set (λ (u : Hand T). weigh h u.put) views port v w at in
-            let q = total_set (λ (u : Hand T). weigh h u.got) views port v w at in
+            let p = total_set (λ (u : QueueView T). weigh h u.put) views port v w at in
+            let q = total_set (λ (u : QueueView T). weigh h u.got) views port v w at in
             let s = r.kept h in
             omega (arith, weigh_append h v.put (e ∷ []), weigh_append h items (e ∷ []));
       }
     where
-      one : (end count : ℕ) → total (λ (u : Hand T). weigh (is_of end count) u.put) (set views port (puts v e)) ≤ 1
+      one : (end count : ℕ) → total (λ (u : QueueView T). weigh (is_of end count) u.put) (set views port (puts v e)) ≤ 1
       one end count =
-          let p = total_set (λ (u : Hand T). weigh (is_of end count) u.put) views port v (puts v e) at in
+          let p = total_set (λ (u : QueueView T). weigh (is_of end count) u.put) views port v (puts v e) at in
           let q = weigh_append (is_of end count) v.put (e ∷ []) in
           let before = r.once end count in
           ⊎_elim
           (λ (same : ((e.end == end) && (e.count == count)) ≡ true).
           let parts = and_parts (e.end == end) (e.count == count) same in
-          let none = subst (λ (x : ℕ × ℕ). total (λ (u : Hand T). weigh (is_of x.0 x.1) u.put) views ≡ 0) (λ i. (eqb-true e.end end parts.0 i, eqb-true e.count count parts.1 i)) (new_entry items views port v e r at number fewer) in
+          let none = subst (λ (x : ℕ × ℕ). total (λ (u : QueueView T). weigh (is_of x.0 x.1) u.put) views ≡ 0) (λ i. (eqb-true e.end end parts.0 i, eqb-true e.count count parts.1 i)) (new_entry items views port v e r at number fewer) in
           let most = at_most_one end count e in
           omega arith)
           (λ (other : ((e.end == end) && (e.count == count)) ≡ false).
@@ -348,9 +348,9 @@ module _ {T : Type 0} where
           (cases_Bool ((e.end == end) && (e.count == count)))
 
   -- ENTRIES ARE GOT
-  pub get_kept : (port : ℕ) (v : Hand T) (entries items : List (Entry T)) (views : List (Hand T)) → HandsOver (entries ++ items) views → get_elem? views port ≡ some v → HandsOver items (set views port (gets v entries))
+  pub get_kept : (port : ℕ) (v : QueueView T) (entries items : List (Entry T)) (views : List (QueueView T)) → HandsOver (entries ++ items) views → get_elem? views port ≡ some v → HandsOver items (set views port (gets v entries))
   get_kept port v entries items views r at =
-      let w : Hand T = gets v entries in
+      let w : QueueView T = gets v entries in
       let mine = r.each port v at in
       let parts = all_parts (IsPast r.counts) entries items r.past in
       record {
@@ -380,10 +380,10 @@ module _ {T : Type 0} where
               past = theirs.past;
               in_order = in_order_without u.got entries items theirs.in_order;
             });
-        once = λ end count. let p = total_set (λ (u : Hand T). weigh (is_of end count) u.put) views port v w at in let q = r.once end count in omega arith;
+        once = λ end count. let p = total_set (λ (u : QueueView T). weigh (is_of end count) u.put) views port v w at in let q = r.once end count in omega arith;
         kept = λ h.
-            let p = total_set (λ (u : Hand T). weigh h u.put) views port v w at in
-            let q = total_set (λ (u : Hand T). weigh h u.got) views port v w at in
+            let p = total_set (λ (u : QueueView T). weigh h u.put) views port v w at in
+            let q = total_set (λ (u : QueueView T). weigh h u.got) views port v w at in
             let s = r.kept h in
             omega (arith, weigh_append h v.got entries, weigh_append h entries items);
       }

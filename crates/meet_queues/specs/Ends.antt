@@ -7,7 +7,7 @@ use Rattle.atomic_blocks.specs.Lent.{RowsId}
 use Rattle.std.specs.declared.alloc.Global.{Global}
 use Rattle.crossbeam_deque.specs.Injected.{injector_view, IsInjectorPassOf}
 use Rattle.meet_queues.specs.declared.entries.Entry.{Entry}
-use Rattle.meet_queues.specs.declared.entries.Hand.{Hand}
+use Rattle.meet_queues.specs.declared.entries.QueueView.{QueueView}
 use Rattle.meet_queues.specs.Hands.{IsHandOf, hand, taker}
 use Rattle.meet_queues.specs.declared.ends.ReadyEnd.{ReadyEnd}
 use Rattle.meet_queues.specs.declared.ends.Other.{Other}
@@ -20,10 +20,10 @@ abbrev pub end_count : ReadyEnd → ℕ
 end_count e = e.count
 
 -- what the end knows of its own deque and of the injector
-abbrev pub own_hand : ReadyEnd → Hand Row
+abbrev pub own_hand : ReadyEnd → QueueView Row
 own_hand e = worker_view e.own
 
-abbrev pub shared_hand : ReadyEnd → Hand Row
+abbrev pub shared_hand : ReadyEnd → QueueView Row
 shared_hand e = injector_view e.inlet
 
 abbrev pub got_of : Other → List (Entry Row)

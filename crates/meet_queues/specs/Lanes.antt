@@ -3,7 +3,7 @@ use Rattle.std.specs.Prelude.{◌≡◌, ℕ, ◌+◌, [], ◌∷◌, Some, None
 use Rattle.protocol_values.specs.declared.Row.{Row}
 use Rattle.crossbeam_queue.specs.SegTies.{IsSegPassOf}
 use Rattle.meet_queues.specs.declared.entries.Entry.{Entry}
-use Rattle.meet_queues.specs.declared.entries.Hand.{Hand}
+use Rattle.meet_queues.specs.declared.entries.QueueView.{QueueView}
 use Rattle.meet_queues.specs.Hands.{IsHandOf, gets, hand, puts}
 use Rattle.meet_queues.specs.declared.lane.Lane.{Lane}
 use Rattle.meet_queues.specs.declared.lane.LanePass.{LanePass}
@@ -16,7 +16,7 @@ abbrev pub pass_count : LanePass → ℕ
 pass_count p = p.count
 
 -- what the pass knows of its lane: what it put there and took
-abbrev pub hand_of : LanePass → Hand Offered
+abbrev pub hand_of : LanePass → QueueView Offered
 hand_of p = p.hand.me.view.client
 
 -- it is a pass of this lane

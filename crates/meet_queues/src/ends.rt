@@ -7,23 +7,23 @@ ghost use Rattle.meet_queues.specs.Hands.{Held};
 ghost use Rattle.meet_queues.specs.declared.ready.Ready.{Ready};
 ghost use Rattle.meet_queues.specs.Ends.{HasPutNothing, IsEndOf, all_got, end_count, own_hand};
 
-use crate::entries::{Entry, Hand};
+use crate::entries::{Entry, QueueView};
 use crate::ready_rule::{Holding, Stolen};
 use crossbeam_deque::{InjectorPass, Pass, Stealer, Worker};
 use protocol_values::Row;
 use std::alloc::Global;
 
 /// A deque of an end, from which the others steal.
-pub(crate) type Deque = Worker<Entry<Row>, Global, Hand<Row>, Stolen>;
+pub(crate) type Deque = Worker<Entry<Row>, Global, QueueView<Row>, Stolen>;
 
 /// A handle of a deque for the other ends.
-pub(crate) type Thief = Stealer<Entry<Row>, Global, Hand<Row>, Stolen>;
+pub(crate) type Thief = Stealer<Entry<Row>, Global, QueueView<Row>, Stolen>;
 
 /// The deque of another end.
 #[derive(Drop)]
 pub(crate) struct Other {
     pub(crate) deque: Thief,
-    pub(crate) hand: Pass<Entry<Row>, Hand<Row>>,
+    pub(crate) hand: Pass<Entry<Row>, QueueView<Row>>,
 }
 
 /// One worker's end of the ready queues: it puts rows into its own deque, and gets them from there, from the
@@ -33,7 +33,7 @@ pub struct ReadyEnd {
     pub(crate) number: u8,
     pub(crate) count: u64,
     pub(crate) own: Deque,
-    pub(crate) inlet: InjectorPass<Entry<Row>, Hand<Row>>,
+    pub(crate) inlet: InjectorPass<Entry<Row>, QueueView<Row>>,
     pub(crate) others: Vec<Other>,
 }
 

@@ -12,7 +12,7 @@ pub struct Entry<T> {
 
 /// What a hand, which is an end's pass of a queue, knows: its end's number, the next number where it deals
 /// hands, what each count that it put is below, and what it put and got. No value of it is made.
-pub struct Hand<T> {
+pub struct QueueView<T> {
     pub number: Option<u8>,
     pub next: Option<u8>,
     pub below: u64,

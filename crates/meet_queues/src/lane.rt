@@ -6,7 +6,7 @@ ghost use Rattle.meet_queues.specs.Hands.{Held, WasEmpty};
 ghost use Rattle.meet_queues.specs.Positions.{AllAt};
 ghost use Rattle.meet_queues.specs.Lanes.{HasPut, HasTaken, IsLanePassOf, IsNewPass, IsSame, Offered, hand_of, pass_count};
 
-use crate::entries::{Entry, Hand};
+use crate::entries::{Entry, QueueView};
 use crate::lane_rule::{LaneRule, Put, Taken, WaitingOffer};
 use crate::splits::Dealt;
 use crossbeam_queue::{RuledSegQueue, SegPass};
@@ -16,7 +16,7 @@ use std::sync::Wait;
 
 /// A queue of waiting offers, oldest first, for any number of passes at once.
 pub struct Lane {
-    queue: RuledSegQueue<Entry<WaitingOffer>, Hand<WaitingOffer>, LaneRule, Global>,
+    queue: RuledSegQueue<Entry<WaitingOffer>, QueueView<WaitingOffer>, LaneRule, Global>,
 }
 
 impl Drop for Lane {
@@ -31,7 +31,7 @@ impl Drop for Lane {
 pub struct LanePass {
     number: u8,
     count: u64,
-    hand: SegPass<Entry<WaitingOffer>, Hand<WaitingOffer>>,
+    hand: SegPass<Entry<WaitingOffer>, QueueView<WaitingOffer>>,
 }
 
 impl LanePass {

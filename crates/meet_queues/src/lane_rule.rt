@@ -1,6 +1,6 @@
 //! The rule that a lane keeps between any two steps.
 
-use crate::entries::{Entry, Hand};
+use crate::entries::{Entry, QueueView};
 use crossbeam_queue::protocol::{Lesson, Outcome, Protocol};
 use protocol_values::Row;
 
@@ -10,7 +10,7 @@ pub type WaitingOffer = (Row, u8);
 /// The rule of a lane.
 pub struct LaneRule;
 
-impl Protocol<Entry<WaitingOffer>, Hand<WaitingOffer>> for LaneRule {
+impl Protocol<Entry<WaitingOffer>, QueueView<WaitingOffer>> for LaneRule {
     ghost use Rattle.meet_queues.specs.Hands.{HandsOver, dealer};
 
     ghost holds = { HandsOver };
@@ -21,7 +21,7 @@ impl Protocol<Entry<WaitingOffer>, Hand<WaitingOffer>> for LaneRule {
 /// An entry was put.
 pub(crate) struct Put;
 
-impl Outcome<Entry<WaitingOffer>, Hand<WaitingOffer>> for Put {
+impl Outcome<Entry<WaitingOffer>, QueueView<WaitingOffer>> for Put {
     ghost use Rattle.std.specs.Prelude.{◌≡◌};
     ghost use Rattle.meet_queues.specs.Hands.{puts};
 
@@ -31,14 +31,14 @@ impl Outcome<Entry<WaitingOffer>, Hand<WaitingOffer>> for Put {
 /// An entry was taken.
 pub(crate) struct Taken;
 
-impl Outcome<Entry<WaitingOffer>, Hand<WaitingOffer>> for Taken {
+impl Outcome<Entry<WaitingOffer>, QueueView<WaitingOffer>> for Taken {
     ghost use Rattle.std.specs.Prelude.{◌≡◌, [], ◌∷◌};
     ghost use Rattle.meet_queues.specs.Hands.{gets};
 
     ghost then = { λ v e w. w ≡ gets v (e ∷ []) };
 }
 
-impl Lesson<Entry<WaitingOffer>, Hand<WaitingOffer>> for Taken {
+impl Lesson<Entry<WaitingOffer>, QueueView<WaitingOffer>> for Taken {
     ghost use Rattle.meet_queues.specs.Hands.{Held};
 
     ghost fact = { Held };

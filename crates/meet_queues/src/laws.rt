@@ -2,7 +2,7 @@
 
 ghost use Rattle.meet_queues.specs.Laws.{HandedOverOnce};
 
-use crate::entries::{Entry, Hand};
+use crate::entries::{Entry, QueueView};
 use crate::lane_rule::{LaneRule, WaitingOffer};
 use crate::ready_rule::{ReadyRule, Stolen};
 use crossbeam_deque::protocol::Protocol as DequeProtocol;
@@ -11,7 +11,7 @@ use protocol_values::Row;
 
 /// Between any two steps of any hands of a queue: of a lane, of an end's deque, and of the injector.
 pub fn each_entry_is_handed_over_once()
-    ensures lane { HandedOverOnce ⟦<LaneRule as QueueProtocol<Entry<WaitingOffer>, Hand<WaitingOffer>>>⟧.holds }
-    ensures deque { HandedOverOnce ⟦<Stolen as DequeProtocol<Entry<Row>, Hand<Row>>>⟧.holds }
-    ensures injector { HandedOverOnce ⟦<ReadyRule as DequeProtocol<Entry<Row>, Hand<Row>>>⟧.holds }
+    ensures lane { HandedOverOnce ⟦<LaneRule as QueueProtocol<Entry<WaitingOffer>, QueueView<WaitingOffer>>>⟧.holds }
+    ensures deque { HandedOverOnce ⟦<Stolen as DequeProtocol<Entry<Row>, QueueView<Row>>>⟧.holds }
+    ensures injector { HandedOverOnce ⟦<ReadyRule as DequeProtocol<Entry<Row>, QueueView<Row>>>⟧.holds }
 {}

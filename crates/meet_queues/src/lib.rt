@@ -17,7 +17,7 @@ mod ready_rule;
 mod splits;
 
 pub use crate::ends::ReadyEnd;
-pub use crate::entries::{Entry, Hand};
+pub use crate::entries::{Entry, QueueView};
 pub use crate::lane::{Lane, LanePass};
 pub use crate::lane_rule::{LaneRule, WaitingOffer};
 pub use crate::laws::each_entry_is_handed_over_once;

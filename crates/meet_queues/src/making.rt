@@ -8,7 +8,7 @@ ghost use Rattle.meet_queues.specs.Positions.{AllAt};
 ghost use Rattle.meet_queues.specs.Ends.{IsAlone, IsEndOf, IsNewEnd, IsNewOther, IsThief, all_but, deque_of, own_deque_of};
 
 use crate::ends::{Deque, Other, ReadyEnd, Thief};
-use crate::entries::{Entry, Hand};
+use crate::entries::{Entry, QueueView};
 use crate::ready::Ready;
 use crate::splits::{Dealt, Settled};
 use crossbeam_deque::{Injector, InjectorPass};
@@ -34,7 +34,7 @@ fn own_deque(alloc: Global, number: u8) -> Result<Deque, AllocError>
 fn lone_end(
     alloc: Global,
     ready: &Ready,
-    dealer: &mut InjectorPass<Entry<Row>, Hand<Row>>,
+    dealer: &mut InjectorPass<Entry<Row>, QueueView<Row>>,
     number: u8,
 ) -> Result<ReadyEnd, AllocError>
     requires dealer { IsInjectorPassOf ready.now.inlet dealer.old × (injector_view dealer.old ≡ hand None (Some number) 0 [] []) }

@@ -7,7 +7,7 @@ ghost use Rattle.meet_queues.specs.Hands.{WasEmpty, gets};
 ghost use Rattle.meet_queues.specs.Ends.{IsEndOf, IsOther, GotOne, HasPut, HasPutNothing, HasGot, all_got, got_of, end_count, end_number, own_hand, shared_hand};
 
 use crate::ends::{Other, ReadyEnd};
-use crate::entries::{Entry, Hand};
+use crate::entries::{Entry, QueueView};
 use crate::ready_rule::{Got, Put, ReadyRule};
 use crossbeam_deque::{Injector, InjectorPass, Steal};
 use protocol_values::Row;
@@ -17,7 +17,7 @@ use std::sync::Wait;
 /// What the ends share: the injector.
 #[derive(Drop)]
 pub struct Ready {
-    pub(crate) inlet: Injector<Entry<Row>, Global, Hand<Row>, ReadyRule>,
+    pub(crate) inlet: Injector<Entry<Row>, Global, QueueView<Row>, ReadyRule>,
 }
 
 impl Ready {
@@ -66,7 +66,7 @@ impl Ready {
     fn take_shared<R: Wait>(
         &self,
         rt: &R,
-        inlet: &mut InjectorPass<Entry<Row>, Hand<Row>>,
+        inlet: &mut InjectorPass<Entry<Row>, QueueView<Row>>,
     ) -> Option<Entry<Row>>
         requires { IsInjectorPassOf self.now.inlet inlet.old }
         ensures here { IsInjectorPassOf self.now.inlet inlet.new }

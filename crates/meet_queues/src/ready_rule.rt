@@ -1,13 +1,13 @@
 //! The rule that each queue keeps between any two steps, and what its calls tell an end.
 
-use crate::entries::{Entry, Hand};
+use crate::entries::{Entry, QueueView};
 use crossbeam_deque::protocol::{Lesson, Outcome, Protocol};
 use protocol_values::Row;
 
 /// The rule of a deque and of the injector.
 pub struct ReadyRule;
 
-impl Protocol<Entry<Row>, Hand<Row>> for ReadyRule {
+impl Protocol<Entry<Row>, QueueView<Row>> for ReadyRule {
     ghost use Rattle.meet_queues.specs.Hands.{HandsOver, dealer};
 
     ghost holds = { HandsOver };
@@ -20,7 +20,7 @@ impl Protocol<Entry<Row>, Hand<Row>> for ReadyRule {
 /// The rule of a deque and of the injector, where new hands have no number: they may take only.
 pub struct Stolen;
 
-impl Protocol<Entry<Row>, Hand<Row>> for Stolen {
+impl Protocol<Entry<Row>, QueueView<Row>> for Stolen {
     ghost use Rattle.meet_queues.specs.Hands.{HandsOver, dealer, taker};
 
     ghost holds = { HandsOver };
@@ -33,7 +33,7 @@ impl Protocol<Entry<Row>, Hand<Row>> for Stolen {
 /// One entry was put.
 pub(crate) struct Put;
 
-impl Outcome<Entry<Row>, Hand<Row>> for Put {
+impl Outcome<Entry<Row>, QueueView<Row>> for Put {
     ghost use Rattle.meet_queues.specs.Hands.{PutsOne};
 
     ghost then = { PutsOne };
@@ -42,7 +42,7 @@ impl Outcome<Entry<Row>, Hand<Row>> for Put {
 /// Entries were got.
 pub(crate) struct Got;
 
-impl Outcome<Entry<Row>, Hand<Row>> for Got {
+impl Outcome<Entry<Row>, QueueView<Row>> for Got {
     ghost use Rattle.std.specs.Prelude.{◌≡◌};
     ghost use Rattle.meet_queues.specs.Hands.{gets, WasEmpty};
 
@@ -54,7 +54,7 @@ impl Outcome<Entry<Row>, Hand<Row>> for Got {
 /// What the queue holds at a moment.
 pub(crate) struct Holding;
 
-impl Lesson<Entry<Row>, Hand<Row>> for Holding {
+impl Lesson<Entry<Row>, QueueView<Row>> for Holding {
     ghost use Rattle.meet_queues.specs.Hands.{Held};
 
     ghost fact = { Held };

@@ -15,8 +15,8 @@ ghost use Rattle.meet_scan.specs.Steps.{OnlyLooks, SearchMade, found_or_left};
 use crate::found::Found;
 use crate::own::{commit_alone, leave, own_directions};
 use cell::{Attempt, Cells, Pass, StepGate};
-use protocol_ledger::Resident;
 use meet_directory::{Directory, DirectoryPass, next_thread};
+use protocol_ledger::Resident;
 use protocol_values::{Cell, Direction, Row};
 
 /// The first offer of an opened row that meets one in this direction.

@@ -1,6 +1,6 @@
 use Rattle.std.proofs.Common.{ℕ, ◌≤◌, Some, None, [], All, ap, arith, refl, rules, sym, subst, ◌∙◌}
 use Rattle.std.proofs.lemmas.List.Elements.{All-push}
-use Rattle.meet_queues.specs.declared.entries.Hand.{Hand}
+use Rattle.meet_queues.specs.declared.entries.QueueView.{QueueView}
 use Rattle.meet_queues.specs.Hands.{dealt, hand}
 use Rattle.meet_queues.specs.Positions.{AllAt}
 use Rattle.meet_queues.proofs.Keeping.{begins}
@@ -15,7 +15,7 @@ pub with_rule-requires : goal.with_rule-requires
 with_rule-requires c = begins
 
 pub another-hand-requires-clause-rule : goal.another-hand-requires-clause-rule
-another-hand-requires-clause-rule c = deals_one _ c.loop-number.dealer.me.view.client _ (ap (λ (v : Hand Offered). v.next) c.loop-number.invariant.1)
+another-hand-requires-clause-rule c = deals_one _ c.loop-number.dealer.me.view.client _ (ap (λ (v : QueueView Offered). v.next) c.loop-number.invariant.1)
 
 pub loop-number-preserved : goal.loop-number-preserved
 loop-number-preserved c =
@@ -29,8 +29,8 @@ loop-number-preserved c =
       subst (All (IsLanePassOf lane)) (sym same) (All-push (IsLanePassOf lane) c.loop-number.all.items pass c.loop-number.invariant.4 (
         c.another-hand.ensures.queue.2,
         (
-          ap (λ (v : Hand Offered). v.number) c.another-hand.ensures.rule.1 ∙ ap (λ (v : Hand Offered). v.next) c.loop-number.invariant.1,
-          subst (λ (b : ℕ). b ≤ 0) (sym (ap (λ (v : Hand Offered). v.below) c.another-hand.ensures.rule.1)) (omega arith),
+          ap (λ (v : QueueView Offered). v.number) c.another-hand.ensures.rule.1 ∙ ap (λ (v : QueueView Offered). v.next) c.loop-number.invariant.1,
+          subst (λ (b : ℕ). b ≤ 0) (sym (ap (λ (v : QueueView Offered). v.below) c.another-hand.ensures.rule.1)) (omega arith),
         ),
       )),
       subst (AllAt IsNewPass) (sym same) (all_at_pushed IsNewPass c.loop-number.all.items pass c.loop-number.invariant.5 (
