@@ -23,7 +23,7 @@ use Rattle.meet_scan.specs.Leaving.{IsHeldUp, KnowsMore, ScansTo, TriesFirst}
 use Rattle.meet_scan.specs.Searches.{Finds, Grows}
 use Rattle.meet_scan.specs.Steps.{SearchMade, found_or_left}
 use Rattle.meet_scan.specs.declared.found.Found.{Found}
-use Rattle.meet_scan.specs.declared.found.Found.TheVariants.{Alone, Already, Left, Met}
+use Rattle.meet_scan.specs.declared.found.Found.TheVariants.{Alone, Already, Met, Waits}
 use Rattle.meet_scan.proofs.Growing.{grows_nothing, grows_then, saw_more, stands_more}
 use Rattle.meet_scan.proofs.Scanning.{held_more, more_nothing, tries_sooner}
 use Rattle.cell_hand.specs.Hands.{CanAttempt, CanDraft, HandOf, Looked, Stays}
@@ -65,14 +65,14 @@ finds_sooner s m t r None g f = f
 finds_sooner s m t r (Some (Met other)) g f = f
 finds_sooner s m t r (Some Alone) g f = f
 finds_sooner s m t r (Some Already) g f = f
-finds_sooner s m t r (Some Left) g f = (λ c. f.0 (saw_more s m r g c), λ n c. f.1 n (stands_more s m r n g c))
+finds_sooner s m t r (Some Waits) g f = (λ c. f.0 (saw_more s m r g c), λ n c. f.1 n (stands_more s m r n g c))
 
 scans_sooner : (v : View) (s m t : Seen) (r : Row) (came : Option Found) → Grows s m → IfSome came (ScansTo v m t r) → IfSome came (ScansTo v s t r)
 scans_sooner v s m t r None g f = f
 scans_sooner v s m t r (Some (Met other)) g f = f
 scans_sooner v s m t r (Some Alone) g f = f
 scans_sooner v s m t r (Some Already) g f = f
-scans_sooner v s m t r (Some Left) g f = (f.0, λ c. f.1 (saw_more s m r g c))
+scans_sooner v s m t r (Some Waits) g f = (f.0, λ c. f.1 (saw_more s m r g c))
 
 again_sooner : (t u : Grid) (v : View) (s m k : Seen) (r : Row) (came : Option Found) → u ≡ t → Grows s m → IfNone came (IsHeldUp u v m k r) → IfNone came (IsHeldUp t v s k r)
 again_sooner t u v s m k r (Some f) same g held = held

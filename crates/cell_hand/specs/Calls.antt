@@ -23,7 +23,7 @@ use Rattle.meet_scan.specs.Leaving.{IsHeldUp, KnowsMore, ScansTo, TriesFirst}
 use Rattle.meet_scan.specs.Searches.{Finds, Grows, IsAlone}
 use Rattle.meet_scan.specs.Steps.{OnlyLooks, SearchMade, found_or_left}
 use Rattle.meet_scan.specs.declared.found.Found.{Found}
-use Rattle.meet_scan.specs.declared.found.Found.TheVariants.{Alone, Already, Left, Met}
+use Rattle.meet_scan.specs.declared.found.Found.TheVariants.{Alone, Already, Met, Waits}
 use Rattle.cell_hand.specs.Hands.{CanAttempt, CanDraft, HandOf, Looked, Made, NotFresh, NotOpened, NotThere, Stays}
 use Rattle.cell_hand.specs.declared.refusal.Refusal.{Refusal}
 use Rattle.cell_hand.specs.declared.refusal.Refusal.TheVariants.{Range}
@@ -178,7 +178,7 @@ abbrev pub IsWoken : Seen → Seen → Row → Option Found → Type 0
 IsWoken s t r (Some (Met other)) = ⊥
 IsWoken s t r (Some Alone) = IsAlone t r
 IsWoken s t r (Some Already) = SawCommitted t r
-IsWoken s t r (Some Left) = (n : ℕ) → n < 8 → ¬ CanStandAlone s r n
+IsWoken s t r (Some Waits) = (n : ℕ) → n < 8 → ¬ CanStandAlone s r n
 IsWoken s t r None = (n : ℕ) × CanStandAlone t r n
 
 abbrev pub Wakes : HandOf → HandOf → Row → Result (Option Found) Refusal → Type 0

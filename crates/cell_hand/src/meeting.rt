@@ -155,7 +155,7 @@ fn wake_row(cells: &Cells<Bare>, pass: &mut Pass<Bare>, row: Row) -> Option<Foun
             Grant::Late => return is_already(saw_committed(cells, pass, row)),
         }
     }
-    Some(Found::Left)
+    Some(Found::Waits)
 }
 
 /// What keeps a row from being committed alone: it is committed, or it was claimed.

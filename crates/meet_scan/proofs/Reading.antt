@@ -11,7 +11,7 @@ use Rattle.cell_table.specs.declared.view.Seen.{Seen}
 use Rattle.cell_table.specs.Sight.{Coherent, HaveDirection, LackOffer, SeesDirection}
 use Rattle.cell_table.specs.Nacks.{CanStandAlone}
 use Rattle.meet_scan.specs.declared.found.Found.{Found}
-use Rattle.meet_scan.specs.declared.found.Found.TheVariants.{Met, Alone, Already, Left}
+use Rattle.meet_scan.specs.declared.found.Found.TheVariants.{Met, Alone, Already, Waits}
 use Rattle.meet_scan.specs.Searches.{Finds, Grows, LacksAt, Leaves, Lists, StandsByNone}
 use Rattle.cell_table.proofs.Directions.{sees_direction}
 use Rattle.cell_table.proofs.Offers.{few}
@@ -140,4 +140,4 @@ pub found_left : (s t u : Seen) (r : Row) (found : Found) → Grows s t → Leav
 found_left s t u r (Met other) grows h none = absurd h
 found_left s t u r Alone grows h none = absurd h
 found_left s t u r Already grows h none = h
-found_left s t u r Left grows h none = ((λ c. h (saw_more s t r grows c)), none)
+found_left s t u r Waits grows h none = ((λ c. h (saw_more s t r grows c)), none)

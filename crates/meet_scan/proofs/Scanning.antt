@@ -23,7 +23,7 @@ use Rattle.meet_scan.specs.Steps.{SearchMade, found_or_left}
 use Rattle.protocol_values.specs.declared.Step.{Step}
 use Rattle.cell_table.specs.Nacks.{CanStandAlone}
 use Rattle.meet_scan.specs.declared.found.Found.{Found}
-use Rattle.meet_scan.specs.declared.found.Found.TheVariants.{Met, Alone, Already, Left}
+use Rattle.meet_scan.specs.declared.found.Found.TheVariants.{Met, Alone, Already, Waits}
 use Rattle.meet_scan.proofs.Growing.{NeedsPartner, grows_nothing, grows_then, saw_more, seen_more, stands_never}
 use Rattle.meet_scan.proofs.Making.{keeps_nothing, keeps_then, made_then, tries_nothing}
 use Rattle.cell.specs.Attempts.{CanMeet}
@@ -248,7 +248,7 @@ pub record Goes {M : Type 0} (g : GridOf M) (b : Directory) (r : Row) (p q : Pas
   pub results : KeepsResults p q
   pub sits : Sits b y
   pub more : KnowsMore x.me.0 y.me.0
-  pub made : SearchMade r Left p.made q.made
+  pub made : SearchMade r Waits p.made q.made
 
 pub goes_nothing : {M : Type 0} (g : GridOf M) (b : Directory) (r : Row) (p : PassOf M) (x : Seat (Unit {0}) View) → IsPassOf g p → Sits b x → Goes g b r p p x x
 goes_nothing g b r p x here sits = record { here = here; grows = grows_nothing p.seen; results = keeps_nothing p; sits = sits; more = more_nothing x.me.0; made = tries_nothing r p.made }
@@ -260,7 +260,7 @@ goes_then g b r p q s x y z f h = record {
   results = keeps_then p q s f.results h.results;
   sits = h.sits;
   more = more_then x.me.0 y.me.0 z.me.0 f.more h.more;
-  made = made_then r Left p.made q.made s.made f.made h.made;
+  made = made_then r Waits p.made q.made s.made f.made h.made;
 }
 
 -- WHAT A PART OF A SCAN CAME TO
@@ -269,36 +269,36 @@ comes_wider t r P Q None f h = tt
 comes_wider t r P Q (Some (Met other)) f h = h
 comes_wider t r P Q (Some Alone) f h = h
 comes_wider t r P Q (Some Already) f h = h
-comes_wider t r P Q (Some Left) f h = f h
+comes_wider t r P Q (Some Waits) f h = f h
 
 -- where the row is committed, whatever holds of one that is left
-pub comes_found : (t : Seen) (r : Row) (P Q : Type 0) (found : Option Found) → found ≢ Some Left → IfSome found (ComesTo t r P) → IfSome found (ComesTo t r Q)
+pub comes_found : (t : Seen) (r : Row) (P Q : Type 0) (found : Option Found) → found ≢ Some Waits → IfSome found (ComesTo t r P) → IfSome found (ComesTo t r Q)
 comes_found t r P Q None apart h = tt
 comes_found t r P Q (Some (Met other)) apart h = h
 comes_found t r P Q (Some Alone) apart h = h
 comes_found t r P Q (Some Already) apart h = h
-comes_found t r P Q (Some Left) apart h = absurd (apart refl)
+comes_found t r P Q (Some Waits) apart h = absurd (apart refl)
 
 -- at the end of a scan, where no row was claimed
-pub then_comes : (t : Seen) (r : Row) (P : Type 0) (claimed : Bool) (found : Option Found) → found ≡ then_some (not claimed) Left → (claimed ≡ false → P) → IfSome found (ComesTo t r P)
+pub then_comes : (t : Seen) (r : Row) (P : Type 0) (claimed : Bool) (found : Option Found) → found ≡ then_some (not claimed) Waits → (claimed ≡ false → P) → IfSome found (ComesTo t r P)
 then_comes t r P false found is holds = subst (λ (f : Option Found). IfSome f (ComesTo t r P)) (sym is) (holds refl)
 then_comes t r P true found is holds = subst (λ (f : Option Found). IfSome f (ComesTo t r P)) (sym is) tt
 
 -- where it is left
-pub comes_left : (t : Seen) (r : Row) (P : Type 0) (found : Option Found) → found ≡ Some Left → IfSome found (ComesTo t r P) → P
+pub comes_left : (t : Seen) (r : Row) (P : Type 0) (found : Option Found) → found ≡ Some Waits → IfSome found (ComesTo t r P) → P
 comes_left t r P found is comes = subst (λ (f : Option Found). IfSome f (ComesTo t r P)) is comes
 
-pub left_made : (r : Row) (a b : List Step) (found : Option Found) → found ≡ Some Left → SearchMade r (found_or_left found) a b → SearchMade r Left a b
+pub left_made : (r : Row) (a b : List Step) (found : Option Found) → found ≡ Some Waits → SearchMade r (found_or_left found) a b → SearchMade r Waits a b
 left_made r a b found is made = subst (λ (f : Option Found). SearchMade r (found_or_left f) a b) is made
 
-pub alone_comes : (t : Seen) (r : Row) (P : Type 0) (found : Option Found) → IfSome found (FoundAt t r) → IfNone found P → ComesTo t r P (unwrap_or found Left)
+pub alone_comes : (t : Seen) (r : Row) (P : Type 0) (found : Option Found) → IfSome found (FoundAt t r) → IfNone found P → ComesTo t r P (unwrap_or found Waits)
 alone_comes t r P None f n = n
 alone_comes t r P (Some (Met other)) f n = f
 alone_comes t r P (Some Alone) f n = f
 alone_comes t r P (Some Already) f n = f
-alone_comes t r P (Some Left) f n = absurd f
+alone_comes t r P (Some Waits) f n = absurd f
 
-pub alone_made : (r : Row) (a b : List Step) (found : Option Found) → SearchMade r (found_or_left found) a b → SearchMade r (unwrap_or found Left) a b
+pub alone_made : (r : Row) (a b : List Step) (found : Option Found) → SearchMade r (found_or_left found) a b → SearchMade r (unwrap_or found Waits) a b
 alone_made r a b None made = made
 alone_made r a b (Some found) made = made
 
@@ -354,7 +354,7 @@ pub left_scans : (v : View) (s t u : Seen) (r : Row) (found : Found) → Grows s
 left_scans v s t u r (Met other) before after left leaves = absurd leaves
 left_scans v s t u r Alone before after left leaves = absurd leaves
 left_scans v s t u r Already before after left leaves = leaves
-left_scans v s t u r Left before after left leaves = ((λ n low. left_at_more v v t u r n (more_nothing v) after (left n low)), λ c. leaves (saw_more s t r before c))
+left_scans v s t u r Waits before after left leaves = ((λ n low. left_at_more v v t u r n (more_nothing v) after (left n low)), λ c. leaves (saw_more s t r before c))
 
 -- READ ONE AFTER ANOTHER: the heads that were read stand in the list, and nothing behind them
 pub record ReadTo (t : Seen) (r : Row) (directions : List (Option Direction)) (n : ℕ) : Type 0 where
@@ -420,7 +420,7 @@ pub held_by : {M : Type 0} (g : GridOf M) (v w : View) (s t : Seen) (r q : Row) 
 held_by g v w s t r q own count published look is apart stops =
     (record { other = q; own = own; apart = apart; named = (glimpse q.thread count v, saw_it v w q.thread count look, published, refl, is); stops = stops }, refl)
 
-pub then_none : {P : Type 0} (claimed : Bool) (found : Option Found) → found ≡ then_some (not claimed) Left → (claimed ≡ true → P) → IfNone found P
+pub then_none : {P : Type 0} (claimed : Bool) (found : Option Found) → found ≡ then_some (not claimed) Waits → (claimed ≡ true → P) → IfNone found P
 then_none {P} false found is holds = subst (λ (f : Option Found). IfNone f P) (sym is) tt
 then_none {P} true found is holds = subst (λ (f : Option Found). IfNone f P) (sym is) (holds refl)
 
@@ -480,7 +480,7 @@ tried_tries : {M : Type 0} (g : GridOf M) (v : View) (s t : Seen) (r : Row) (fir
 tried_tries g v s t r first (Met other) tried = λ apart. tried
 tried_tries g v s t r first Alone tried = tried
 tried_tries g v s t r first Already tried = tt
-tried_tries g v s t r first Left tried = tt
+tried_tries g v s t r first Waits tried = tt
 
 pub all_try : {M : Type 0} (g : GridOf M) (v : View) (s t : Seen) (r : Row) (first : ℕ) (found : Option Found) → IsTried g v s t r first → IfSome found (TriesFirst g v s t r first)
 all_try g v s t r first None tried = tt
@@ -490,4 +490,4 @@ pub tries_sooner : {M : Type 0} (g : GridOf M) (v : View) (a s t : Seen) (r : Ro
 tries_sooner g v a s t r first (Met other) before tries = λ apart. tried_more g v v a s t t r first (more_nothing v) before (grows_nothing t) (tries apart)
 tries_sooner g v a s t r first Alone before tried = tried_more g v v a s t t r first (more_nothing v) before (grows_nothing t) tried
 tries_sooner g v a s t r first Already before tries = tt
-tries_sooner g v a s t r first Left before tries = tt
+tries_sooner g v a s t r first Waits before tries = tt

@@ -12,7 +12,7 @@ use Rattle.meet_directory.specs.declared.view.View.{View}
 use Rattle.meet_directory.specs.declared.view.Glimpse.{Glimpse}
 use Rattle.meet_directory.specs.Directory.{Missed, Published, Has as HasMark}
 use Rattle.meet_scan.specs.declared.found.Found.{Found}
-use Rattle.meet_scan.specs.declared.found.Found.TheVariants.{Met, Alone, Already, Left}
+use Rattle.meet_scan.specs.declared.found.Found.TheVariants.{Met, Alone, Already, Waits}
 use Rattle.meet_scan.specs.Searches.{IsAlone, IsMetWith, Lists}
 
 -- SIDES
@@ -87,14 +87,14 @@ abbrev pub ComesTo : Seen → Row → Type 0 → Found → Type 0
 ComesTo t r P (Met other) = IsMetWith t r other
 ComesTo t r P Alone = IsAlone t r
 ComesTo t r P Already = SawCommitted t r
-ComesTo t r P Left = P
+ComesTo t r P Waits = P
 
 -- What a scan of all offers came to, by what the pass had seen before it and has seen after it.
 abbrev pub ScansTo : View → Seen → Seen → Row → Found → Type 0
 ScansTo v s t r (Met other) = IsMetWith t r other
 ScansTo v s t r Alone = IsAlone t r
 ScansTo v s t r Already = SawCommitted t r
-ScansTo v s t r Left = IsLeftRow v t r × (¬ SawCommitted s r)
+ScansTo v s t r Waits = IsLeftRow v t r × (¬ SawCommitted s r)
 
 -- WHO IS IN THE WAY
 
@@ -138,14 +138,14 @@ abbrev pub MeetsOnly : ℕ → Found → Type 0
 MeetsOnly u (Met other) = other.thread ≡ u
 MeetsOnly u Alone = ⊥
 MeetsOnly u Already = ⊤
-MeetsOnly u Left = ⊤
+MeetsOnly u Waits = ⊤
 
 -- A search that begins with thread u meets a row of another one, or commits its row alone, only where u was tried.
 abbrev pub TriesFirst : {M : Type 0} → GridOf M → View → Seen → Seen → Row → ℕ → Found → Type 0
 TriesFirst g v s t r u (Met other) = other.thread ≢ u → IsTried g v s t r u
 TriesFirst g v s t r u Alone = IsTried g v s t r u
 TriesFirst g v s t r u Already = ⊤
-TriesFirst g v s t r u Left = ⊤
+TriesFirst g v s t r u Waits = ⊤
 
 -- NOBODY IS LEFT: of two rows of two threads whose offers i and j meet, each of which was left for that offer, one was seen committed
 -- or taken.

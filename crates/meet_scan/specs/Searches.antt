@@ -8,7 +8,7 @@ use Rattle.cell.specs.Attempts.{AreMet}
 use Rattle.cell_table.specs.Nacks.{CanStandAlone}
 use Rattle.cell_table.specs.Sight.{Has, LearnsOf, SawCommitted}
 use Rattle.meet_scan.specs.declared.found.Found.{Found}
-use Rattle.meet_scan.specs.declared.found.Found.TheVariants.{Met, Alone, Already, Left}
+use Rattle.meet_scan.specs.declared.found.Found.TheVariants.{Met, Alone, Already, Waits}
 
 -- the pass has seen no less, and holds and has drafted the same
 abbrev pub Grows : Seen → Seen → Type 0
@@ -29,7 +29,7 @@ abbrev pub FoundAt : Seen → Row → Found → Type 0
 FoundAt t r (Met other) = IsMetWith t r other
 FoundAt t r Alone = IsAlone t r
 FoundAt t r Already = SawCommitted t r
-FoundAt t r Left = ⊥
+FoundAt t r Waits = ⊥
 
 -- What a search found, by what the pass had seen before it and has seen after it. A row is left only where it had not
 -- been seen committed, and no offer of it had been seen to be an always, an enabled nack, or the end of a thread that has ended.
@@ -37,14 +37,14 @@ abbrev pub Finds : Seen → Seen → Row → Found → Type 0
 Finds s t r (Met other) = IsMetWith t r other
 Finds s t r Alone = IsAlone t r
 Finds s t r Already = SawCommitted t r
-Finds s t r Left = (¬ SawCommitted s r) × ((n : ℕ) → ¬ CanStandAlone s r n)
+Finds s t r Waits = (¬ SawCommitted s r) × ((n : ℕ) → ¬ CanStandAlone s r n)
 
 -- what leaving a row came to
 abbrev pub Leaves : Seen → Seen → Row → Found → Type 0
 Leaves s t r (Met other) = ⊥
 Leaves s t r Alone = ⊥
 Leaves s t r Already = SawCommitted t r
-Leaves s t r Left = ¬ SawCommitted s r
+Leaves s t r Waits = ¬ SawCommitted s r
 
 -- the list has this direction at place n
 abbrev pub Lists : List (Option Direction) → ℕ → Direction → Type 0

@@ -5,7 +5,7 @@ use Rattle.protocol_values.specs.declared.Step.{Step}
 use Rattle.protocol_values.specs.declared.Step.TheVariants.{Claim, Grant, Join, Seal, Yield}
 use Rattle.cell.specs.Calls.{KeepsResults, PassOf}
 use Rattle.meet_scan.specs.declared.found.Found.{Found}
-use Rattle.meet_scan.specs.declared.found.Found.TheVariants.{Met, Alone, Already, Left}
+use Rattle.meet_scan.specs.declared.found.Found.TheVariants.{Met, Alone, Already, Waits}
 
 -- the pass has made no step, and has the results and the slots that it had
 abbrev pub OnlyLooks : {M : Type 0} → PassOf M → PassOf M → Type 0
@@ -24,7 +24,7 @@ abbrev pub SearchMade : Row → Found → List Step → List Step → Type 0
 SearchMade r (Met other) before after = (n : ℕ) × (own : ℕ) × (partner : ℕ) × (after ≡ Seal r ∷ Join r own other partner ∷ Claim r ∷ with_tries n r before)
 SearchMade r Alone before after = (n : ℕ) × (own : ℕ) × (after ≡ Grant r own ∷ with_tries n r before)
 SearchMade r Already before after = (n : ℕ) × (after ≡ with_tries n r before)
-SearchMade r Left before after = (n : ℕ) × (after ≡ with_tries n r before)
+SearchMade r Waits before after = (n : ℕ) × (after ≡ with_tries n r before)
 
 -- after want of memory: as a search that came to something
 abbrev pub SomeSearchMade : Row → List Step → List Step → Type 0
@@ -32,5 +32,5 @@ SomeSearchMade r before after = (found : Found) × SearchMade r found before aft
 
 -- what a part of a search came to: where it found nothing, the row is left to the next part
 abbrev pub found_or_left : Option Found → Found
-found_or_left None = Left
+found_or_left None = Waits
 found_or_left (Some found) = found

@@ -12,5 +12,5 @@ pub enum Found {
     /// The row had been committed by another.
     Already,
     /// The row waits.
-    Left,
+    Waits,
 }

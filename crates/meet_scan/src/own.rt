@@ -74,7 +74,7 @@ pub fn leave<M: Resident>(cells: &Cells<M>, pass: &mut Pass<M>, row: Row) -> Fou
     if saw_committed(cells, pass, row) {
         Found::Already
     } else {
-        Found::Left
+        Found::Waits
     }
 }
 

@@ -66,17 +66,17 @@ fn scan_row<G: StepGate, M: Resident>(
     ensures again { IfNone result (CannotPass cells.now pass.old.seen pass.new.seen mine.0 other) }
 {
     match cells.look(pass, other) {
-        Cell::Synched(_) | Cell::Taken(_) => Some(Found::Left),
+        Cell::Synched(_) | Cell::Taken(_) => Some(Found::Waits),
         // who published it had opened it, so it is found so
         Cell::Fresh => None,
         Cell::Waiting | Cell::Claimed => {
             let Some(partner) = meeting_offer(cells, pass, other, direction) else {
-                return Some(Found::Left);
+                return Some(Found::Waits);
             };
             match cells.attempt(pass, gate, mine.0, mine.1, other, partner) {
                 Attempt::Met(_) => Some(Found::Met(other)),
                 Attempt::Mine => Some(Found::Already),
-                Attempt::Gone => Some(Found::Left),
+                Attempt::Gone => Some(Found::Waits),
                 Attempt::Busy => None,
                 Attempt::Unfit => unreachable!(),
             }
@@ -115,7 +115,7 @@ fn scan_thread<G: StepGate, M: Resident>(
 {
     let count = directory.scan_newest(scan, other);
     if count == 0 {
-        return Some(Found::Left);
+        return Some(Found::Waits);
     }
     if count > 4294967296 {
         return None;
@@ -169,7 +169,7 @@ fn scan_side<G: StepGate, M: Resident>(
         match scan_thread(
             directory, scan, cells, pass, gate, mine, direction, sides, other,
         ) {
-            Some(Found::Left) => continue,
+            Some(Found::Waits) => continue,
             Some(Found::Met(other)) => return Some(Found::Met(other)),
             Some(Found::Alone) => return Some(Found::Alone),
             Some(Found::Already) => return Some(Found::Already),
@@ -179,7 +179,7 @@ fn scan_side<G: StepGate, M: Resident>(
             }
         }
     }
-    (!is_claimed).then_some(Found::Left)
+    (!is_claimed).then_some(Found::Waits)
 }
 
 /// The side of an offer in this direction, and the opposite one.
@@ -256,8 +256,8 @@ fn scan_offer<G: StepGate, M: Resident>(
 {
     match sides(direction) {
         Some(both) => scan_side(directory, scan, cells, pass, gate, mine, direction, both),
-        None if alone => Some(commit_alone(cells, pass, mine).unwrap_or(Found::Left)),
-        None => Some(Found::Left),
+        None if alone => Some(commit_alone(cells, pass, mine).unwrap_or(Found::Waits)),
+        None => Some(Found::Waits),
     }
 }
 
@@ -290,7 +290,7 @@ pub fn scan_offers<G: StepGate, M: Resident>(
     let mut is_claimed = false;
     for n in 0..8 {
         let Some(direction) = directions[usize::from(n)] else {
-            return (!is_claimed).then_some(Found::Left);
+            return (!is_claimed).then_some(Found::Waits);
         };
         match scan_offer(
             directory,
@@ -302,7 +302,7 @@ pub fn scan_offers<G: StepGate, M: Resident>(
             direction,
             alone,
         ) {
-            Some(Found::Left) => continue,
+            Some(Found::Waits) => continue,
             Some(Found::Met(other)) => return Some(Found::Met(other)),
             Some(Found::Alone) => return Some(Found::Alone),
             Some(Found::Already) => return Some(Found::Already),
@@ -312,7 +312,7 @@ pub fn scan_offers<G: StepGate, M: Resident>(
             }
         }
     }
-    (!is_claimed).then_some(Found::Left)
+    (!is_claimed).then_some(Found::Waits)
 }
 
 /// Tries to meet the newest row of this other thread by each offer of the published row. None: nothing came of it.
@@ -361,7 +361,7 @@ fn scan_wished<G: StepGate, M: Resident>(
             both,
             first,
         ) {
-            Some(Found::Left) => continue,
+            Some(Found::Waits) => continue,
             Some(Found::Met(other)) => return Some(Found::Met(other)),
             Some(Found::Alone) => return Some(Found::Alone),
             Some(Found::Already) => return Some(Found::Already),
@@ -482,7 +482,7 @@ pub fn search_once<G: StepGate, M: Resident>(
         first,
         alone,
     )? {
-        Found::Left => Some(leave(cells, pass, row)),
+        Found::Waits => Some(leave(cells, pass, row)),
         found => Some(found),
     }
 }

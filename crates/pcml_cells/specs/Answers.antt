@@ -10,7 +10,7 @@ use Rattle.cell.specs.declared.attempt.Attempt.TheVariants as attempt
 use Rattle.cell.specs.declared.granting.Grant.{Grant}
 use Rattle.cell.specs.declared.granting.Grant.TheVariants.{Given, NotEnabled, Late}
 use Rattle.meet_scan.specs.declared.found.Found.{Found}
-use Rattle.meet_scan.specs.declared.found.Found.TheVariants.{Met, Alone, Already, Left}
+use Rattle.meet_scan.specs.declared.found.Found.TheVariants.{Met, Alone, Already, Waits}
 use Rattle.plain_values.specs.Plain.{AreListed, IsCommit, IsJoined, IsMessage, IsOffer, NotAll, nack_number, plain_row}
 use Rattle.plain_values.specs.declared.commits.PlainJoined.{PlainJoined}
 use Rattle.plain_values.specs.declared.commits.PlainRow.{PlainRow}
@@ -97,7 +97,7 @@ abbrev pub found_number : Option Found → ℕ
 found_number (Some (Met row)) = 0
 found_number (Some Alone) = 1
 found_number (Some Already) = 2
-found_number (Some Left) = 3
+found_number (Some Waits) = 3
 found_number None = 4
 
 -- WHAT A CALL DOES. What a pass keeps of a table that has ended stays as it is. Else its hand goes from h to k.
@@ -176,7 +176,7 @@ abbrev pub TellsMet : PlainRow → Result (Option Found) Refusal → Type 0
 TellsMet after (Ok (Some (Met other))) = after ≡ plain_row other
 TellsMet after (Ok (Some Alone)) = ⊤
 TellsMet after (Ok (Some Already)) = ⊤
-TellsMet after (Ok (Some Left)) = ⊤
+TellsMet after (Ok (Some Waits)) = ⊤
 TellsMet after (Ok None) = ⊤
 TellsMet after (Err e) = ⊤
 

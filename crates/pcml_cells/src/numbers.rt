@@ -116,7 +116,7 @@ pub(crate) fn found(answer: Result<Option<Found>, Refusal>) -> u32
         Ok(Some(Found::Met(_))) => 0,
         Ok(Some(Found::Alone)) => 1,
         Ok(Some(Found::Already)) => 2,
-        Ok(Some(Found::Left)) => 3,
+        Ok(Some(Found::Waits)) => 3,
         Ok(None) => 4,
         Err(refusal) => refused(refusal),
     }

@@ -45,7 +45,7 @@ pub(crate) fn tell_met(came: Result<Option<Found>, Refusal>, met: &mut PlainRow)
         }
         Ok(Some(Found::Alone)) => 1,
         Ok(Some(Found::Already)) => 2,
-        Ok(Some(Found::Left)) => 3,
+        Ok(Some(Found::Waits)) => 3,
         Ok(None) => 4,
         Err(refusal) => refused(refusal),
     }

@@ -321,7 +321,7 @@ impl<R: Wait, G: Gate + StepGate> Crew<'_, R, G> {
                 Ok(Committed::Alone(row))
             }
             // whoever committed the row follows it
-            Found::Already | Found::Left => Ok(Committed::Nothing),
+            Found::Already | Found::Waits => Ok(Committed::Nothing),
         }
     }
 

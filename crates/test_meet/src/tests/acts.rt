@@ -7,10 +7,10 @@ ghost use Rattle.cell_table.specs.Sight.{Has, SawEnded};
 ghost use Rattle.meet.specs.Rooms.{IsMeetPassOf};
 
 use super::table::{always, cancelled, enter, joined, receive, send};
-use protocol_ledger::Bare;
 use cell::{Cells, NoGate, Pass};
-use meet_scan::Found;
 use meet::{Meet, MeetPass};
+use meet_scan::Found;
+use protocol_ledger::Bare;
 use protocol_values::{Cell, Course, Message, NackName, Offer, Row};
 use std::alloc::AllocError;
 use std::fmt::Debug;

@@ -7,10 +7,10 @@ ghost use Rattle.cell_table.specs.Sight.{Has, SawEnded};
 ghost use Rattle.meet.specs.Rooms.{IsMeetPassOf};
 
 use super::table::{enter, receive, rooms, send, table_of_two};
-use protocol_ledger::Bare;
 use cell::{Cells, NoGate, Pass, StepGate, YIELD};
-use meet_scan::Found;
 use meet::{Meet, MeetPass};
+use meet_scan::Found;
+use protocol_ledger::Bare;
 use protocol_values::Row;
 use std::alloc::AllocError;
 use std::cell::Cell as Kept;
@@ -56,7 +56,7 @@ fn meet_on_first<R: Wait>(
 {
     let waiting = Row { thread: 0, sync };
     enter(cells, waiter, waiting, &[receive(0, 0), receive(1, 0)]);
-    if meet.search(rt, cells, waiter, lanes, &NoGate, waiting)? != Found::Left {
+    if meet.search(rt, cells, waiter, lanes, &NoGate, waiting)? != Found::Waits {
         return Ok(false);
     }
     let sending = Row { thread: 1, sync };
@@ -112,7 +112,7 @@ fn a_lane_keeps_few_entries_of_committed_rows(rt: HostRuntime) -> Result<(), Fai
     let yields = Yields {
         count: Kept::new(0),
     };
-    assert!(rt; meet.search(&rt, &cells, &mut sender, &mut lanes, &yields, last)? == Found::Left);
+    assert!(rt; meet.search(&rt, &cells, &mut sender, &mut lanes, &yields, last)? == Found::Waits);
     assert!(rt; yields.count.get() <= 64, "{} entries", yields.count.get());
     Ok(())
 }

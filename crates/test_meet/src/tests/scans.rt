@@ -8,10 +8,10 @@ ghost use Rattle.protocol_ledger.specs.Worlds.{first_row};
 
 use super::table::{always, enter, receive, row, send, table_of_two};
 use super::threads::rooms;
-use protocol_ledger::Bare;
 use cell::{Cells, NoGate, Pass};
 use meet_directory::{Directory, DirectoryPass};
 use meet_scan::{Found, search_once};
+use protocol_ledger::Bare;
 use protocol_values::Offer;
 use std::test::Fail;
 
@@ -59,7 +59,7 @@ fn the_second_of_two_rows_finds_the_first(rt: HostRuntime) -> Result<(), Fail> {
     let mut theirs = directory.another(&mut mine);
     let receives = [receive(0, 0), receive(1, 0)];
     let waits = search(&directory, &mut mine, &cells, &mut first, 0, &receives);
-    assert!(rt; waits == Some(Found::Left));
+    assert!(rt; waits == Some(Found::Waits));
     let sends = [receive(0, 0), send(1, 42)];
     let finds = search(&directory, &mut theirs, &cells, &mut second, 1, &sends);
     assert!(rt; finds == Some(Found::Met(row(0))));
@@ -84,10 +84,10 @@ fn rows_that_do_not_meet_are_left(rt: HostRuntime) -> Result<(), Fail> {
     let mut theirs = directory.another(&mut mine);
     let sends = [send(0, 42), receive(1, 0)];
     let waits = search(&directory, &mut mine, &cells, &mut first, 0, &sends);
-    assert!(rt; waits == Some(Found::Left));
+    assert!(rt; waits == Some(Found::Waits));
     let others = [send(0, 43), receive(1, 0)];
     let finds = search(&directory, &mut theirs, &cells, &mut second, 1, &others);
-    assert!(rt; finds == Some(Found::Left));
+    assert!(rt; finds == Some(Found::Waits));
     Ok(())
 }
 
@@ -107,7 +107,7 @@ fn who_was_told_searches_on(rt: HostRuntime) -> Result<(), Fail> {
     let (meet, mut mine, mut theirs) = rooms(rt.alloc(), 1)?;
     enter(&cells, &mut first, row(0), &[receive(0, 0)]);
     let waits = meet.search(&rt, &cells, &mut first, &mut mine, &NoGate, row(0))?;
-    assert!(rt; waits == Found::Left);
+    assert!(rt; waits == Found::Waits);
     meet.tell(&mut mine, &mut theirs);
     enter(&cells, &mut second, row(1), &[send(0, 42)]);
     let finds = meet.search(&rt, &cells, &mut second, &mut theirs, &NoGate, row(1))?;

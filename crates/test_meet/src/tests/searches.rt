@@ -39,7 +39,7 @@ pub(super) fn check_acts<R: AllocGlobal + Abort + Wait>(
 const PAIR: [Act; 7] = [
     Act::Enter(FIRST, Offers::Two(Single::Receive(0), Single::Send(1, 42))),
     Act::Enter(SECOND, Offers::Two(Single::Send(0, 7), Single::Receive(1))),
-    Act::Search(FIRST, Found::Left),
+    Act::Search(FIRST, Found::Waits),
     Act::Search(SECOND, Found::Met(FIRST)),
     Act::Result(FIRST, Some(Message::One(Atom::Num(7)))),
     Act::Result(SECOND, Some(Message::Empty)),
@@ -56,10 +56,10 @@ const ALIKE: [Act; 7] = [
     Act::Enter(FIRST, Offers::Two(Single::Send(0, 1), Single::Receive(0))),
     Act::Enter(SECOND, Offers::One(Single::Send(1, 2))),
     Act::Enter(THIRD, Offers::One(Single::Send(1, 3))),
-    Act::Search(FIRST, Found::Left),
-    Act::Search(SECOND, Found::Left),
-    Act::Search(THIRD, Found::Left),
-    Act::Search(FIRST, Found::Left),
+    Act::Search(FIRST, Found::Waits),
+    Act::Search(SECOND, Found::Waits),
+    Act::Search(THIRD, Found::Waits),
+    Act::Search(FIRST, Found::Waits),
 ];
 
 #[test]
@@ -74,8 +74,8 @@ const OLDEST: [Act; 8] = [
     Act::Enter(THIRD, Offers::One(Single::Send(0, 2))),
     Act::Enter(FOURTH, Offers::One(Single::Receive(0))),
     Act::Search(FIRST, Found::Alone),
-    Act::Search(THIRD, Found::Left),
-    Act::Search(SECOND, Found::Left),
+    Act::Search(THIRD, Found::Waits),
+    Act::Search(SECOND, Found::Waits),
     Act::Search(FOURTH, Found::Met(THIRD)),
 ];
 
@@ -90,8 +90,8 @@ const TAKEN_UP: [Act; 9] = [
     Act::Enter(SECOND, Offers::One(Single::Send(0, 2))),
     Act::Enter(THIRD, Offers::One(Single::Receive(0))),
     Act::Enter(FOURTH, Offers::One(Single::Receive(0))),
-    Act::Search(FIRST, Found::Left),
-    Act::Search(SECOND, Found::Left),
+    Act::Search(FIRST, Found::Waits),
+    Act::Search(SECOND, Found::Waits),
     Act::Search(THIRD, Found::Met(FIRST)),
     Act::Search(THIRD, Found::Already),
     Act::Search(FOURTH, Found::Met(SECOND)),
@@ -110,7 +110,7 @@ const UNFIT: [Act; 5] = [
         Offers::Three(Single::Send(0, 1), Single::Send(0, 2), Single::Receive(0)),
     ),
     Act::Enter(SECOND, Offers::One(Single::Receive(0))),
-    Act::Search(FIRST, Found::Left),
+    Act::Search(FIRST, Found::Waits),
     Act::Search(SECOND, Found::Met(FIRST)),
     Act::Result(SECOND, Some(Message::One(Atom::Num(1)))),
 ];
@@ -128,7 +128,7 @@ const NO_ROOM: [Act; 4] = [
         SECOND,
         Offers::Two(Single::Receive(1), Single::Send(255, 1)),
     ),
-    Act::Search(FIRST, Found::Left),
+    Act::Search(FIRST, Found::Waits),
     Act::Search(SECOND, Found::Met(FIRST)),
 ];
 

@@ -6,10 +6,10 @@ ghost use Rattle.cell_table.specs.Sight.{AreOffers, Has};
 ghost use Rattle.meet.specs.Rooms.{IsMeetPassOf};
 
 use super::table::{receive, rooms, send, table_of_all};
-use protocol_ledger::Bare;
 use cell::{Cells, NoGate, Pass};
-use meet_scan::Found;
 use meet::{Meet, MeetPass};
+use meet_scan::Found;
+use protocol_ledger::Bare;
 use protocol_values::{Cell, Course, Offer, Row};
 use std::alloc::AllocError;
 use std::sync::Wait;
@@ -77,7 +77,7 @@ fn meets<R: Wait>(
     if !opens(cells, pass, sending, &[send(pair, 42), send(SPARE, 42)]) {
         return Ok(false);
     }
-    if meet.search(rt, cells, pass, lanes, &NoGate, sending)? != Found::Left {
+    if meet.search(rt, cells, pass, lanes, &NoGate, sending)? != Found::Waits {
         return Ok(false);
     }
     if !opens(cells, pass, receiving, &[receive(pair, 0)]) {

@@ -8,9 +8,9 @@ ghost use Rattle.cell_table.specs.Sight.{AreOffers, Has, SawEnded};
 ghost use Rattle.protocol_ledger.specs.Worlds.{first_row};
 ghost use Rattle.meet.specs.Rooms.{IsMeetPassOf};
 
-use protocol_ledger::Bare;
 use cell::{Cells, Pass};
 use meet::{Meet, MeetPass};
+use protocol_ledger::Bare;
 use protocol_values::{Atom, Base, Message, NackName, Offer, Row};
 use std::alloc::{AllocError, Global};
 

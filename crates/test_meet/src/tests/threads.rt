@@ -10,10 +10,10 @@ ghost use Rattle.meet.specs.Rooms.{IsMeetPassOf};
 
 use super::table::{NACK, cancelled, enter, joined, last, receive, row, send, table_of_two};
 use super::wakings::enter_bound;
-use protocol_ledger::Bare;
 use cell::{Cells, NoGate, Pass};
-use meet_scan::Found;
 use meet::{Meet, MeetPass};
+use meet_scan::Found;
+use protocol_ledger::Bare;
 use protocol_values::Offer;
 use std::alloc::{AllocError, Global};
 use std::sync::Wait;

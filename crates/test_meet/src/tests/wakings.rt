@@ -8,9 +8,9 @@ ghost use Rattle.protocol_ledger.specs.Worlds.{first_row};
 use super::acts::{Act, Offers, Single};
 use super::searches::check_acts;
 use super::table::{NACK, always, enter, receive, row};
-use protocol_ledger::Bare;
 use cell::{Cells, Pass};
 use meet_scan::Found;
+use protocol_ledger::Bare;
 use protocol_values::{Message, NackName, Offer, Row};
 use std::test::Fail;
 
@@ -49,7 +49,7 @@ const WAITER_IS_WOKEN: [Act; 8] = [
     Act::Bind(FIRST),
     Act::Enter(FIRST, Offers::Two(Single::ReceiveInside, Single::Always)),
     Act::Enter(SECOND, Offers::One(Single::Cancelled)),
-    Act::Search(SECOND, Found::Left),
+    Act::Search(SECOND, Found::Waits),
     Act::Search(FIRST, Found::Alone),
     Act::Wake(NACK, &[SECOND]),
     Act::Result(SECOND, Some(Message::Empty)),
@@ -67,8 +67,8 @@ const ENABLED: [Act; 12] = [
     Act::Enter(FIRST, Offers::Two(Single::ReceiveInside, Single::Always)),
     Act::Enter(SECOND, Offers::Two(Single::Cancelled, Single::Cancelled)),
     Act::Enter(THIRD, Offers::Two(Single::Receive(0), Single::Cancelled)),
-    Act::Search(SECOND, Found::Left),
-    Act::Search(THIRD, Found::Left),
+    Act::Search(SECOND, Found::Waits),
+    Act::Search(THIRD, Found::Waits),
     Act::Wake(NACK, &[]),
     Act::Search(FIRST, Found::Alone),
     Act::Wake(NackName { thread: 0, k: 1 }, &[]),
@@ -86,8 +86,8 @@ fn only_an_enabled_nack_wakes(rt: HostRuntime) -> Result<(), Fail> {
 const ENDED: [Act; 10] = [
     Act::Enter(SECOND, Offers::One(Single::Joined)),
     Act::Enter(THIRD, Offers::Two(Single::Receive(0), Single::Joined)),
-    Act::Search(SECOND, Found::Left),
-    Act::Search(THIRD, Found::Left),
+    Act::Search(SECOND, Found::Waits),
+    Act::Search(THIRD, Found::Waits),
     Act::WakeEnd(0, &[]),
     Act::Finish(FIRST),
     Act::WakeEnd(1, &[]),

@@ -2,7 +2,7 @@ use Rattle.std.proofs.Common.{arith, inr, rules, subst, sym, ◌≡◌, ℕ}
 use Rattle.std.specs.Prelude.{IsTrue, Some, None, get_or}
 use Rattle.std.proofs.lemmas.Bool.{true≢false}
 use Rattle.meet_scan.specs.Searches.{LacksAt, Lists}
-use Rattle.meet_scan.specs.declared.found.Found.TheVariants.{Alone, Already, Left, Met}
+use Rattle.meet_scan.specs.declared.found.Found.TheVariants.{Alone, Already, Met, Waits}
 use Rattle.meet_scan.proofs.Growing.{grows_nothing, stands_more}
 use Rattle.meet_scan.proofs.Making.{found_made, none_made}
 use Rattle.meet_scan.proofs.Reading.{none_listed, stands_by_no_other, stands_by_none}
@@ -31,8 +31,8 @@ returns-in_default-clause-found g c =
 pub returns-in_default-clause-again : goal.returns-in_default-clause-again
 returns-in_default-clause-again g c = then_none c.loop-n.is_claimed c.then_some.result c.then_some.ensures c.loop-n.invariant.2
 
-pub loop-n-preserved-in-Some-Left : goal.loop-n-preserved-in-Some-Left
-loop-n-preserved-in-Some-Left g c =
+pub loop-n-preserved-in-Some-Waits : goal.loop-n-preserved-in-Some-Waits
+loop-n-preserved-in-Some-Waits g c =
     let i = c.loop-n.invariant in
     let call = c.scan_offer.ensures in
     let s = c.args.pass.now.seen in
@@ -44,7 +44,7 @@ loop-n-preserved-in-Some-Left g c =
     let d = c.in-Some.direction in
     let listed : Lists c.args.directions.now c.loop-n.n d = subst (λ (n : ℕ). Lists c.args.directions.now n d) c.from.ensures c.in-Some.is in
     let have = read_listed s r c.args.directions.now c.loop-n.n d c.loop-n-test.true c.requires.read listed in
-    let left : c.scan_offer.result ≡ Some Left = (search rules) in (
+    let left : c.scan_offer.result ≡ Some Waits = (search rules) in (
       goes_then c.args.cells.now c.args.directory.now r c.args.pass.now c.loop-n.pass c.scan_offer.new.pass c.args.scan.now c.loop-n.scan c.scan_offer.new.scan i.0
           (record { here = call.here; grows = call.grows; results = call.results; sits = call.sits; more = call.more; made = left_made r c.loop-n.pass.made c.scan_offer.new.pass.made c.scan_offer.result left call.made }),
       λ free. let came = comes_left u r _ c.scan_offer.result left call.found in

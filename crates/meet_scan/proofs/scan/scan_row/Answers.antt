@@ -2,7 +2,7 @@ use Rattle.std.proofs.Common.{◌∙◌, inl, inr, subst, sym}
 use Rattle.cell.proofs.Learning.{learns_look}
 use Rattle.cell_table.specs.declared.view.Seen.{Seen}
 use Rattle.meet_scan.specs.Searches.{Grows}
-use Rattle.meet_scan.specs.declared.found.Found.TheVariants.{Left, Met}
+use Rattle.meet_scan.specs.declared.found.Found.TheVariants.{Waits, Met}
 use Rattle.meet_scan.proofs.Growing.{grows_by, grows_then}
 use Rattle.meet_scan.proofs.Making.{looked_first, made_looks, made_then, one_try}
 use Rattle.meet_scan.proofs.Scanning.{have_more}
@@ -26,7 +26,7 @@ returns-in-Met-clause-made g c =
 pub returns-in-Mine-clause-made : goal.returns-in-Mine-clause-made
 returns-in-Mine-clause-made g c =
     let first = looked_first c.args.mine.0 c.args.pass.now.made c.meeting_offer.new.pass.made (c.meeting_offer.ensures.looks.0 ∙ c.look.ensures.made) in
-    made_looks c.args.mine.0 Left c.args.pass.now.made c.meeting_offer.new.pass.made c.attempt.new.pass.made first c.in-Mine.ensures.made
+    made_looks c.args.mine.0 Waits c.args.pass.now.made c.meeting_offer.new.pass.made c.attempt.new.pass.made first c.in-Mine.ensures.made
 
 pub returns-in-Gone-clause-made : goal.returns-in-Gone-clause-made
 returns-in-Gone-clause-made g c =

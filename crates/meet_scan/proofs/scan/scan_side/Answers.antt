@@ -1,7 +1,7 @@
 use Rattle.std.proofs.Common.{arith, rules, ◌≡◌}
 use Rattle.std.specs.Prelude.{Some, None}
 use Rattle.std.proofs.lemmas.Bool.{true≢false}
-use Rattle.meet_scan.specs.declared.found.Found.TheVariants.{Alone, Already, Left, Met}
+use Rattle.meet_scan.specs.declared.found.Found.TheVariants.{Alone, Already, Met, Waits}
 use Rattle.meet_scan.proofs.Growing.{grows_nothing}
 use Rattle.meet_scan.proofs.Making.{found_made, none_made}
 use Rattle.meet_scan.proofs.Scanning.{all_done, comes_left, done_next, done_to, from_again, goes_then, held_more, left_made, more_nothing, published_more, then_comes, then_none}
@@ -26,8 +26,8 @@ loop-other-preserved-then-other-mine g c =
 pub scan_thread-requires-clause-published : goal.scan_thread-requires-clause-published
 scan_thread-requires-clause-published g c = published_more c.args.scan.now.me.0 c.loop-other.scan.me.0 c.args.mine.0.thread c.args.mine.0.sync c.args.sides.0 c.loop-other.invariant.0.more c.requires.published
 
-pub loop-other-preserved-in-Some-Left : goal.loop-other-preserved-in-Some-Left
-loop-other-preserved-in-Some-Left g c =
+pub loop-other-preserved-in-Some-Waits : goal.loop-other-preserved-in-Some-Waits
+loop-other-preserved-in-Some-Waits g c =
     let i = c.loop-other.invariant in
     let call = c.scan_thread.ensures in
     let v = c.loop-other.scan.me.0 in
@@ -36,7 +36,7 @@ loop-other-preserved-in-Some-Left g c =
     let t = c.scan_thread.new.pass.seen in
     let r = c.args.mine.0 in
     let next = c.in-Some.ensures in
-    let left : c.scan_thread.result ≡ Some Left = (search rules) in (
+    let left : c.scan_thread.result ≡ Some Waits = (search rules) in (
       goes_then c.args.cells.now c.args.directory.now r c.args.pass.now c.loop-other.pass c.scan_thread.new.pass c.args.scan.now c.loop-other.scan c.scan_thread.new.scan i.0
           (record { here = call.here; grows = call.grows; results = call.results; sits = call.sits; more = call.more; made = left_made r c.loop-other.pass.made c.scan_thread.new.pass.made c.scan_thread.result left call.made }),
       call.more.1 _ i.1,

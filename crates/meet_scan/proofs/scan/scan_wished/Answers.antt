@@ -1,7 +1,7 @@
 use Rattle.std.proofs.Common.{arith, inl, inr, rules, subst, sym, ◌≡◌, ◌∙◌, ℕ}
 use Rattle.std.specs.Prelude.{Some, None, get_or}
 use Rattle.meet_scan.specs.Searches.{LacksAt, Lists}
-use Rattle.meet_scan.specs.declared.found.Found.TheVariants.{Already, Left, Met}
+use Rattle.meet_scan.specs.declared.found.Found.TheVariants.{Already, Met, Waits}
 use Rattle.meet_scan.proofs.Growing.{grows_nothing}
 use Rattle.meet_scan.proofs.Making.{found_made, none_made}
 use Rattle.meet_scan.proofs.Reading.{none_listed}
@@ -50,8 +50,8 @@ scan_thread-requires-clause-published g c =
     (c.requires.out c.loop-n.n c.in-Some.direction both.0 both.1 listed (sym c.sides.ensures ∙ c.in-Some-sides.is))
 
 -- each row of the thread was missed or passed by
-pub loop-n-preserved-in-Some-Left : goal.loop-n-preserved-in-Some-Left
-loop-n-preserved-in-Some-Left g c =
+pub loop-n-preserved-in-Some-Waits : goal.loop-n-preserved-in-Some-Waits
+loop-n-preserved-in-Some-Waits g c =
     let i = c.loop-n.invariant in
     let call = c.scan_thread.ensures in
     let s = c.args.pass.now.seen in
@@ -64,7 +64,7 @@ loop-n-preserved-in-Some-Left g c =
     let both = c.in-Some-sides.both in
     let listed : Lists c.args.directions.now c.loop-n.n d = subst (λ (n : ℕ). Lists c.args.directions.now n d) c.from.ensures c.in-Some.is in
     let have = have_more t u r c.loop-n.n d call.grows (have_more s t r c.loop-n.n d i.0.grows (read_listed s r c.args.directions.now c.loop-n.n d c.loop-n-test.true c.requires.read listed)) in
-    let left : c.scan_thread.result ≡ Some Left = (search rules) in
+    let left : c.scan_thread.result ≡ Some Waits = (search rules) in
     let done = comes_left u r _ c.scan_thread.result left call.found in (
       goes_then c.args.cells.now c.args.directory.now r c.args.pass.now c.loop-n.pass c.scan_thread.new.pass c.args.scan.now c.loop-n.scan c.scan_thread.new.scan i.0
           (record { here = call.here; grows = call.grows; results = call.results; sits = call.sits; more = call.more; made = left_made r c.loop-n.pass.made c.scan_thread.new.pass.made c.scan_thread.result left call.made }),

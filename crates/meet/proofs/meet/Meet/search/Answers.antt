@@ -3,7 +3,7 @@ use Rattle.std.specs.Prelude.{None}
 use Rattle.cell.proofs.Meeting.{from_none}
 use Rattle.meet_scan.specs.Searches.{StandsByNone}
 use Rattle.meet_scan.specs.Steps.{SomeSearchMade}
-use Rattle.meet_scan.specs.declared.found.Found.TheVariants.{Left}
+use Rattle.meet_scan.specs.declared.found.Found.TheVariants.{Waits}
 use Rattle.meet_scan.proofs.Growing.{grows_then}
 use Rattle.meet_scan.proofs.Making.{any_error, looked_first, made_looks, made_then, none_made}
 use Rattle.meet_scan.proofs.Reading.{none_found, stands_nowhere}
@@ -43,8 +43,8 @@ returns-clause-made g c =
     let put = c.put_in-put.new.pass.made in
     let none : c.look_each-first.result ≡ None = none_found c.look_each-first.result c.in_default.not-Some in
     made_then r c.scan-found.result a put c.scan-found.new.pass.made
-    (made_looks r Left a looked put
-    (made_then r Left a read looked (looked_first r a read c.own_directions-directions.ensures.looks.0) (none_made r read looked c.look_each-first.result none c.look_each-first.ensures.made))
+    (made_looks r Waits a looked put
+    (made_then r Waits a read looked (looked_first r a read c.own_directions-directions.ensures.looks.0) (none_made r read looked c.look_each-first.result none c.look_each-first.ensures.made))
     c.put_in-put.ensures.looks.0)
     c.scan-found.ensures.made
 
@@ -59,8 +59,8 @@ returns-in_err-put-clause-failed g c =
     let some : SomeSearchMade r a c.scan-found.new.pass.made = (
       c.scan-found.result,
       made_then r c.scan-found.result a put c.scan-found.new.pass.made
-          (made_looks r Left a looked put
-          (made_then r Left a read looked (looked_first r a read c.own_directions-directions.ensures.looks.0) (none_made r read looked c.look_each-first.result none c.look_each-first.ensures.made))
+          (made_looks r Waits a looked put
+          (made_then r Waits a read looked (looked_first r a read c.own_directions-directions.ensures.looks.0) (none_made r read looked c.look_each-first.result none c.look_each-first.ensures.made))
           c.put_in-put.ensures.looks.0)
           c.scan-found.ensures.made,
     ) in

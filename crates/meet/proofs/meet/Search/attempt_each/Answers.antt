@@ -1,7 +1,7 @@
 use Rattle.std.proofs.Common.{rules, ◌≡◌}
 use Rattle.std.specs.Prelude.{None}
 use Rattle.meet_scan.specs.Steps.{found_or_left}
-use Rattle.meet_scan.specs.declared.found.Found.TheVariants.{Left}
+use Rattle.meet_scan.specs.declared.found.Found.TheVariants.{Waits}
 use Rattle.meet_scan.proofs.Growing.{grows_nothing, grows_then}
 use Rattle.meet_scan.proofs.Making.{keeps_nothing, keeps_then, made_then, none_made, tries_nothing}
 use Rattle.meet.proofs.Putting.{each_on_nothing, each_on_then}
@@ -40,7 +40,7 @@ loop-preserved g c =
       c.attempt-found.ensures.here,
       grows_then c.args.pass.now.seen c.loop.pass.seen c.attempt-found.new.pass.seen c.loop.invariant.3 c.attempt-found.ensures.grows,
       (search rules),
-      made_then row Left c.args.pass.now.made c.loop.pass.made c.attempt-found.new.pass.made c.loop.invariant.5
+      made_then row Waits c.args.pass.now.made c.loop.pass.made c.attempt-found.new.pass.made c.loop.invariant.5
           (none_made row c.loop.pass.made c.attempt-found.new.pass.made c.attempt-found.result none c.attempt-found.ensures.made),
       keeps_then c.args.pass.now c.loop.pass c.attempt-found.new.pass c.loop.invariant.6 c.attempt-found.ensures.results,
       each_on_then c.args.lanes.now.passes.items c.loop.lanes.passes.items c.take_from.new.lanes.passes.items c.loop.invariant.7 c.take_from.ensures.more,

@@ -4,7 +4,7 @@ use Rattle.cell_table.specs.Nacks.{CanStandAlone}
 use Rattle.cell.proofs.Meeting.{from_none}
 use Rattle.meet_scan.specs.Searches.{LacksAt, Lists}
 use Rattle.meet_scan.specs.Steps.{found_or_left}
-use Rattle.meet_scan.specs.declared.found.Found.TheVariants.{Left}
+use Rattle.meet_scan.specs.declared.found.Found.TheVariants.{Waits}
 use Rattle.meet_scan.proofs.Growing.{grows_nothing, grows_then, seen_more, stands_more}
 use Rattle.meet_scan.proofs.Making.{keeps_nothing, keeps_then, made_then, none_made, tries_nothing}
 use Rattle.meet.proofs.Putting.{each_on_nothing, each_on_then}
@@ -25,7 +25,7 @@ loop-n-preserved g c =
       grows_then s u c.look-found.new.pass.seen c.loop-n.invariant.1 c.look-found.ensures.grows,
       stands_to s c.args.row c.loop-n.n c.loop-n.invariant.2 (λ can. from_none c.look-found.result (¬ CanStandAlone u c.args.row c.loop-n.n) c.look-found.ensures.none none (stands_more s u c.args.row c.loop-n.n c.loop-n.invariant.1 can)),
       c.look-found.ensures.lanes,
-      made_then c.args.row Left c.args.pass.now.made c.loop-n.pass.made c.look-found.new.pass.made c.loop-n.invariant.4
+      made_then c.args.row Waits c.args.pass.now.made c.loop-n.pass.made c.look-found.new.pass.made c.loop-n.invariant.4
           (none_made c.args.row c.loop-n.pass.made c.look-found.new.pass.made c.look-found.result none c.look-found.ensures.made),
       keeps_then c.args.pass.now c.loop-n.pass c.look-found.new.pass c.loop-n.invariant.5 c.look-found.ensures.results,
       each_on_then c.args.lanes.now.passes.items c.loop-n.lanes.passes.items c.look-found.new.lanes.passes.items c.loop-n.invariant.6 c.look-found.ensures.more,
