@@ -1,3 +1,2 @@
-pub mod ResolvedLemmas
 pub mod StepLemmas
 pub mod TreeLemmas

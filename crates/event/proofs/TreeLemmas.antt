@@ -1,14 +1,13 @@
--- Laws of event trees: how many base events and offers there are, the wraps of each, and the bits of a mask.
-use Rattle.std.proofs.Common.{◌≡◌, ℕ, zero, suc, ◌+◌, ◌<◌, ◌≤◌, ◌↔◌, max, List, [], ◌∷◌, ◌++◌, map, length, get_or, slice_get, All, Contains, Option, Some, None, ◌^◌, refl, sym, ap, ◌∙◌, arith, ⊎_elim}
+-- Laws of event trees: how many base events there are, the wraps of each, and the bits of a mask.
+use Rattle.std.proofs.Common.{◌≡◌, ℕ, zero, suc, ◌+◌, ◌<◌, ◌↔◌, max, List, [], ◌∷◌, ◌++◌, map, length, get_or, slice_get, Contains, Option, Some, None, ◌^◌, refl, sym, ap, ◌∙◌, arith, ⊎_elim}
 use Rattle.std.specs.Int.{bit_at}
 use Rattle.std.specs.Option.{option_map}
 use Rattle.std.proofs.lemmas.Bool.{cases_eq}
 use Rattle.std.proofs.lemmas.List.{length-append, length-map, map-append}
-use Rattle.std.proofs.lemmas.List.Elements.{All-nil, All-cons, All-append, All-map, All-weaker, All-head, All-tail, Contains-append_left, Contains-append_right, Contains-append_cases}
-use Rattle.std.proofs.lemmas.Nat.{or_lt, pow_below, pow_pos}
+use Rattle.std.proofs.lemmas.List.Elements.{Contains-append_left, Contains-append_right, Contains-append_cases}
 use Rattle.std.proofs.lemmas.Nat.Bits.{bit_at_or, bit_at-lt, bit_at-zero, bit_at-pow_same, bit_at-pow_other}
 use Rattle.std.proofs.lemmas.Option.{slice_get-map, none-some}
-use Rattle.event.specs.Tree.{Tree, Single, Nothing, Or, Wrap, Scope, BaseEvent, with_wrap, with_scope, bases_from, bases, base_count, scope_count, scope_nacks, Fits, mask, IsMaskOf, offer_of, offers, wraps_at}
+use Rattle.event.specs.Tree.{Tree, Single, Nothing, Or, Wrap, Scope, BaseEvent, with_wrap, with_scope, bases_from, bases, base_count, scope_count, scope_nacks, mask, IsMaskOf, wraps_at}
 
 -- LISTS
 
@@ -31,7 +30,7 @@ slice_get-second (x ∷ xs) ys n =
     let more : suc (length xs) + n ≡ suc (length xs + n) = omega arith in
     ap (slice_get (x ∷ (xs ++ ys))) more ∙ slice_get-second xs ys n
 
--- NUMBERS OF BASE EVENTS AND OFFERS
+-- NUMBERS OF BASE EVENTS
 
 -- how the scopes are numbered does not matter to the number of base events
 pub length-bases_from : (n m : ℕ) (t : Tree) → length (bases_from n t) ≡ length (bases_from m t)
@@ -146,46 +145,3 @@ pub mask-bits : (scopes : List ℕ) → IsMaskOf scopes (mask scopes)
 mask-bits [] scope = (λ h. absurd (omega (arith, h, bit_at-zero scope)), λ (k, within, is). absurd (omega (arith, within)))
 mask-bits (s ∷ scopes) scope =
     ⊎_elim (bit-same s scopes scope (mask-bits scopes scope)) (bit-other s scopes scope (mask-bits scopes scope)) (cases_eq scope s)
-
-abbrev IsBelow : ℕ → ℕ → Type 0
-IsBelow limit scope = scope < limit
-
-abbrev HasScopesBelow : ℕ → BaseEvent → Type 0
-HasScopesBelow limit b = All (IsBelow limit) b.scopes
-
-HasScopesBelow-wider : (low high : ℕ) (bs : List BaseEvent) → low ≤ high → All (HasScopesBelow low) bs → All (HasScopesBelow high) bs
-HasScopesBelow-wider low high bs le =
-    All-weaker (HasScopesBelow low) (HasScopesBelow high)
-    (λ b. All-weaker (IsBelow low) (IsBelow high) (λ s lt. omega (arith, le, lt)) b.scopes) bs
-
--- the scopes round a base event are among those that have begun
-scopes-below : (n : ℕ) (t : Tree) → All (HasScopesBelow (n + scope_count t)) (bases_from n t)
-scopes-below n (Single base) = All-cons (HasScopesBelow (n + 0)) _ [] (All-nil (IsBelow (n + 0))) (All-nil (HasScopesBelow (n + 0)))
-scopes-below n Nothing = All-nil (HasScopesBelow (n + 0))
-scopes-below n (Or a b) =
-    let limit : ℕ = n + scope_count (Or a b) in
-    All-append (HasScopesBelow limit) (bases_from n a) (bases_from (n + scope_count a) b)
-    (HasScopesBelow-wider (n + scope_count a) limit (bases_from n a) (omega (arith, scope_count-Or a b)) (scopes-below n a))
-    (HasScopesBelow-wider (n + scope_count a + scope_count b) limit (bases_from (n + scope_count a) b)
-    (omega (arith, scope_count-Or a b)) (scopes-below (n + scope_count a) b))
-scopes-below n (Wrap wrap t) = All-map (HasScopesBelow (n + scope_count t)) (with_wrap wrap) (bases_from n t) (scopes-below n t)
-scopes-below n (Scope nack t) =
-    let inner : ℕ = n + 1 + scope_count t in
-    let limit : ℕ = n + scope_count (Scope nack t) in
-    let le : inner ≤ limit = omega arith in
-    All-map (HasScopesBelow limit) (with_scope n) (bases_from (n + 1) t)
-    (All-weaker (HasScopesBelow inner) (λ b. HasScopesBelow limit (with_scope n b))
-    (λ b h. All-cons (IsBelow limit) n b.scopes (omega arith) (All-weaker (IsBelow inner) (IsBelow limit) (λ s lt. omega (arith, le, lt)) b.scopes h))
-    (bases_from (n + 1) t) (scopes-below (n + 1) t))
-
-mask-below : (n : ℕ) (scopes : List ℕ) → All (IsBelow n) scopes → mask scopes < 2 ^ n
-mask-below n [] h = pow_pos n
-mask-below n (s ∷ scopes) h =
-    or_lt n (2 ^ s) (mask scopes) (pow_below s n (All-head (IsBelow n) s scopes h)) (mask-below n scopes (All-tail (IsBelow n) s scopes h))
-
--- an event that fits has scopes 0 to 3
-pub offers-below : (t : Tree) → Fits t → All (λ o. o.scopes < 16) (offers t)
-offers-below t fit =
-    All-map (λ o. o.scopes < 16) offer_of (bases t)
-    (All-weaker (HasScopesBelow 4) (λ b. mask b.scopes < 16) (λ b h. mask-below 4 b.scopes h) (bases t)
-    (HasScopesBelow-wider (0 + scope_count t) 4 (bases t) (omega (arith, fit.scopes)) (scopes-below 0 t)))

@@ -1,3 +1,2 @@
-pub mod Resolved
 pub mod Steps
 pub mod Tree

@@ -1,5 +1,5 @@
 -- Event trees: their base events from left to right, what stands round each, and the offers that they make.
-use Rattle.std.specs.Prelude.{◌≡◌, ℕ, ◌+◌, ◌^◌, ◌≤◌, ◌↔◌, List, [], ◌∷◌, ◌++◌, map, length, Contains, Option, slice_get, bit_or}
+use Rattle.std.specs.Prelude.{◌≡◌, ℕ, ◌+◌, ◌^◌, ◌↔◌, List, [], ◌∷◌, ◌++◌, map, length, Contains, Option, slice_get, bit_or}
 use Rattle.std.specs.Int.{bit_at}
 use Rattle.std.specs.Option.{option_map}
 use Rattle.protocol_values.specs.declared.Base.{Base}
@@ -13,11 +13,6 @@ pub data Tree : Type 0 where
   Or : (first second : Tree) → Tree
   Wrap : (wrap : ℕ) (event : Tree) → Tree
   Scope : (nack : ℕ) (event : Tree) → Tree
-
--- a choice between any number of events
-abbrev pub choose : List Tree → Tree
-choose [] = Nothing
-choose (e ∷ es) = Or e (choose es)
 
 -- The scopes, each by the number of its nack, in the order in which they begin. A scope's number is its place here.
 abbrev pub scope_nacks : Tree → List ℕ
@@ -56,11 +51,6 @@ bases event = bases_from 0 event
 
 abbrev pub base_count : Tree → ℕ
 base_count event = length (bases event)
-
--- an event that a sync can offer
-pub record Fits (event : Tree) : Type 0 where
-  pub bases : base_count event ≤ 8
-  pub scopes : scope_count event ≤ 4
 
 -- the mask of a list of scope numbers
 abbrev pub mask : List ℕ → ℕ

@@ -1,5 +1,4 @@
 mod checks;
-mod events;
 mod journals;
 mod lexemes;
 mod packing;
