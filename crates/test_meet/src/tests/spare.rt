@@ -5,13 +5,14 @@ ghost use Rattle.cell.specs.Calls.{IsPassOf, IsRowOf};
 ghost use Rattle.cell_table.specs.Sight.{AreOffers, Has};
 ghost use Rattle.meet.specs.Rooms.{IsMeetPassOf};
 
-use super::table::{receive, rooms, send, table_of_all};
+use super::table::{Yields, receive, rooms, send, table_of_all};
 use cell::{Cells, NoGate, Pass};
 use meet::{Meet, MeetPass};
 use meet_scan::Found;
 use protocol_ledger::Bare;
 use protocol_values::{Cell, Course, Offer, Row};
 use std::alloc::AllocError;
+use std::cell::Cell as Kept;
 use std::sync::Wait;
 use std::test::Fail;
 
@@ -112,36 +113,63 @@ fn all_meet<R: Wait>(
     Ok(true)
 }
 
-/// All pairs meet so often. The answer is how long the longest lane was, of some looks, where all went so.
-fn longest_lane<R: Wait>(
+/// All pairs meet so often. Whether all went so.
+fn meet_often<R: Wait>(
     rt: &R,
     meet: &Meet,
     cells: &Cells<Bare>,
     lanes: &mut MeetPass,
     pass: &mut Pass<Bare>,
-) -> Result<Option<usize>, AllocError>
+) -> Result<bool, AllocError>
     requires here { IsPassOf cells.now pass.old × IsMeetPassOf meet.now lanes.old }
     ensures here { IsPassOf cells.now pass.new × IsMeetPassOf meet.now lanes.new }
 {
-    let mut longest = 0;
     for sync in 0..ROUNDS {
         if !all_meet(rt, meet, cells, lanes, pass, sync)? {
-            return Ok(None);
-        }
-        if sync % 94 == 93 {
-            longest = meet.longest_lane(rt, lanes).max(longest);
+            return Ok(false);
         }
     }
-    Ok(Some(longest))
+    Ok(true)
 }
 
+/// How many entries the lane has by then: a row that receives there attempts each, and each yields, for its row is
+/// committed. Nothing where the row did not wait.
+fn entries_left<R: Wait>(
+    rt: &R,
+    meet: &Meet,
+    cells: &Cells<Bare>,
+    lanes: &mut MeetPass,
+    pass: &mut Pass<Bare>,
+) -> Result<Option<u32>, AllocError>
+    requires here { IsPassOf cells.now pass.old × IsMeetPassOf meet.now lanes.old }
+    ensures here { IsPassOf cells.now pass.new × IsMeetPassOf meet.now lanes.new }
+{
+    let last = Row {
+        thread: PAIRS,
+        sync: ROUNDS,
+    };
+    if !opens(cells, pass, last, &[receive(SPARE, 0)]) {
+        return Ok(None);
+    }
+    let yields = Yields {
+        count: Kept::new(0),
+    };
+    if meet.search(rt, cells, pass, lanes, &yields, last)? != Found::Waits {
+        return Ok(None);
+    }
+    Ok(Some(yields.count.get()))
+}
+
+// Nobody looks at the lane before the last row does.
 #[test]
 fn a_lane_that_nobody_looks_at_stays_short(rt: HostRuntime) -> Result<(), Fail> {
     let (cells, mut pass) = table_of_all(rt.alloc(), 64, 1024)?;
     let (meet, mut lanes) = rooms(rt.alloc(), 33, 64)?;
-    let Some(longest) = longest_lane(&rt, &meet, &cells, &mut lanes, &mut pass)? else {
-        panic!(&rt; "a pair did not meet")
+    let all_met = meet_often(&rt, &meet, &cells, &mut lanes, &mut pass)?;
+    assert!(rt; all_met, "a pair did not meet");
+    let Some(count) = entries_left(&rt, &meet, &cells, &mut lanes, &mut pass)? else {
+        panic!(&rt; "the last row did not wait")
     };
-    assert!(rt; longest >= 1 && longest <= 128, "{} entries", longest);
+    assert!(rt; count >= 1 && count <= 128, "{} entries", count);
     Ok(())
 }

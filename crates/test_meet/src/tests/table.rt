@@ -8,14 +8,29 @@ ghost use Rattle.cell_table.specs.Sight.{AreOffers, Has, SawEnded};
 ghost use Rattle.protocol_ledger.specs.Worlds.{first_row};
 ghost use Rattle.meet.specs.Rooms.{IsMeetPassOf};
 
-use cell::{Cells, Pass};
+use cell::{Cells, Pass, StepGate, YIELD};
 use meet::{Meet, MeetPass};
 use protocol_ledger::Bare;
 use protocol_values::{Atom, Base, Message, NackName, Offer, Row};
 use std::alloc::{AllocError, Global};
+use std::cell::Cell as Kept;
 
 /// Nack 0 of thread 0.
 pub(super) const NACK: NackName = NackName { thread: 0, k: 0 };
+
+/// Counts the attempts that yield: the other row was committed.
+#[derive(Drop)]
+pub(super) struct Yields {
+    pub(super) count: Kept<u32>,
+}
+
+impl StepGate for Yields {
+    fn step(&self, kind: u8) {
+        if kind == YIELD {
+            self.count.set(self.count.get().saturating_add(1));
+        }
+    }
+}
 
 /// The first row of a thread.
 pub(super) fn row(thread: u8) -> Row
