@@ -5,7 +5,7 @@ use Rattle.std.proofs.lemmas.Bool.{cases_eq}
 use Rattle.std.proofs.lemmas.List.{get_or-set_other, get_or-set_same, length-set}
 use Rattle.std.proofs.lemmas.Option.{get_or_from_slice_get, slice_get-get_or, slice_get-map, slice_get_within}
 use Rattle.cell_hand.specs.declared.kept.Kept.{Kept}
-use Rattle.hand_kept.specs.declared.handle.Handle.{Handle}
+use Rattle.pcml_cells.specs.declared.handle.Handle.{Handle}
 
 -- the element at which the rest begins
 pub at_drop : {A : Type 0} (xs : List A) (n : ℕ) (x : A) (left : List A) → drop n xs ≡ x ∷ left → slice_get xs n ≡ Some x

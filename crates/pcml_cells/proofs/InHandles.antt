@@ -4,7 +4,7 @@ use Rattle.std.specs.Prelude.{Some}
 use Rattle.cell_hand.specs.Hands.{HandOf}
 use Rattle.cell_hand.specs.declared.kept.Kept.{Kept}
 use Rattle.cell_hand.specs.declared.kept.Kept.TheVariants.{Hand}
-use Rattle.hand_kept.specs.Owned.{InHandle}
+use Rattle.pcml_cells.specs.Owned.{InHandle}
 use Rattle.pcml_cells.specs.Answers.{Does, Told}
 
 -- it was in a handle

@@ -1,3 +1,4 @@
 pub mod Filling
+pub mod HandleSteps
 pub mod InHandles
 pub mod Offers

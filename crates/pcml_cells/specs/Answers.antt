@@ -27,14 +27,14 @@ use Rattle.protocol_values.specs.Commits.{IsInOrder}
 use Rattle.cell.specs.Calls.{HoldsAt}
 use Rattle.cell_table.specs.Sight.{Has}
 use Rattle.cell_hand.specs.Calls.{Answers, Begins, Binds, Bounds, Drafts, IsDealt, Looks, Reads, Results, Searches}
-use Rattle.hand_kept.specs.declared.handle.Handle.{Handle}
+use Rattle.pcml_cells.specs.declared.handle.Handle.{Handle}
 use Rattle.plain_values.specs.declared.commits.PlainCommit.{PlainCommit}
 use Rattle.cell_hand.specs.Hands.{HandOf}
 use Rattle.cell_hand.specs.declared.refusal.Refusal.{Refusal}
 use Rattle.cell_hand.specs.declared.refusal.Refusal.TheVariants as refusal
 use Rattle.cell_hand.specs.declared.kept.Kept.{Kept}
 use Rattle.cell_hand.specs.declared.kept.Kept.TheVariants.{Hand, Ledger, Nothing}
-use Rattle.hand_kept.specs.Owned.{InHandle}
+use Rattle.pcml_cells.specs.Owned.{InHandle}
 
 -- 0 to 15 are answers, and from 16 on nothing was done
 abbrev pub EMPTY : ℕ

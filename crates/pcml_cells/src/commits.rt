@@ -5,10 +5,10 @@ ghost use Rattle.plain_values.specs.Plain.{row_in};
 ghost use Rattle.cell_hand.specs.Calls.{Attempts, Grants, Takes, Wakes};
 ghost use Rattle.pcml_cells.specs.Answers.{Began, Does, NO_THREAD as no_thread, Numbered, Searched, Told, attempt_number, found_number, grant_number, some_number};
 
+use crate::handle::Handle;
 use crate::numbers::{CLOSED, EMPTY, NO_THREAD, RANGE, attempted, found, granted, small, taken};
 use crate::telling::tell_met;
 use cell_hand::Kept;
-use hand_kept::Handle;
 use plain_values::{PlainOffer, PlainRow, read_offers};
 use std::alloc::Global;
 

@@ -5,8 +5,10 @@
 #![tactic(auto)]
 
 mod commits;
+mod handle;
 mod lives;
 mod numbers;
+mod parts;
 mod rows;
 mod tables;
 mod telling;

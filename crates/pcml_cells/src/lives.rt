@@ -5,9 +5,9 @@ ghost use Rattle.plain_values.specs.Plain.{row_in};
 ghost use Rattle.cell_hand.specs.Calls.{Finishes, Starts};
 ghost use Rattle.pcml_cells.specs.Answers.{Does, Numbered, Told, done_number, first_number};
 
+use crate::handle::Handle;
 use crate::numbers::{CLOSED, EMPTY, done, first, small};
 use cell_hand::Kept;
-use hand_kept::Handle;
 use plain_values::PlainRow;
 use std::alloc::Global;
 

@@ -5,10 +5,10 @@ ghost use Rattle.plain_values.specs.Plain.{row_in};
 ghost use Rattle.cell_hand.specs.Calls.{Courses, Looks, Opens};
 ghost use Rattle.pcml_cells.specs.Answers.{Bound, Drafted, Joins, Numbered, Offered, Resulted, Answered, Does, Holds, HoldsIn, Told, cell_number, course_number, done_number, NackBound};
 
+use crate::handle::Handle;
 use crate::numbers::{CLOSED, EMPTY, RANGE, celled, coursed, done, first, small};
 use crate::telling::{tell_answer, tell_joined, tell_message, tell_offer, tell_place};
 use cell_hand::Kept;
-use hand_kept::Handle;
 use plain_values::{PlainJoined, PlainMessage, PlainOffer, PlainRow, read_nack, read_offers};
 use std::alloc::Global;
 

@@ -1,14 +1,14 @@
 //! Tables: begun, left, ended.
 
 ghost use Rattle.std.specs.Prelude.{◌≡◌, ◌≢◌, ◌⊎◌, ℕ, IfOk, None, Some, length, map, slice_get};
-ghost use Rattle.hand_kept.specs.declared.handle.Handle.{Handle as HandleOf};
+ghost use Rattle.pcml_cells.specs.declared.handle.Handle.{Handle as HandleOf};
 ghost use Rattle.cell_hand.specs.declared.kept.Kept.TheVariants.{Hand as ByHand};
 ghost use Rattle.cell_hand.specs.Calls.{CanDeal};
 ghost use Rattle.pcml_cells.specs.Answers.{AreDealt, AreWritten, Closed, Lists, ListsOf};
 
+use crate::handle::Handle;
 use crate::numbers::{CLOSED, EMPTY, RANGE, refused};
 use cell_hand::{Hand, Kept, Refusal};
-use hand_kept::Handle;
 use plain_values::PlainCommit;
 use protocol_values::Commit;
 use std::alloc::{AllocError, Global};

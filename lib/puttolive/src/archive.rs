@@ -67,7 +67,7 @@ pub(crate) struct Pass {
     handle: Handle,
 }
 
-// SAFETY: the archive proves it of what the handle keeps (`Send` of `hand_kept`).
+// SAFETY: the archive proves it of what the handle keeps (`Send` of `pcml_cells`' `Handle`).
 unsafe impl Send for Pass {}
 
 /// A table of 1 to 64 threads of 1 to 1,024 rows, whose rows have room for 1 to 8 offers, with 1 to 16 passes. Pass p

@@ -1,7 +1,7 @@
 use Rattle.std.proofs.Common.{subst, sym, ◌↔◌, IsTrue}
 use Rattle.plain_values.specs.Plain.{row_in}
 use Rattle.cell_hand.specs.declared.kept.Kept.{Kept}
-use Rattle.hand_kept.specs.Owned.{InHandle}
+use Rattle.pcml_cells.specs.Owned.{InHandle}
 use Rattle.pcml_cells.specs.Answers.{Holds, HoldsIn}
 use Rattle.pcml_cells.proofs.rows.pcml_holds.Goals as goal
 

@@ -1,6 +1,6 @@
 use Rattle.std.proofs.Common.{Some, drop, length, map, slice_get, ◌+◌, ◌<◌, ◌≡◌, ℕ}
 use Rattle.std.specs.Vec.Iter.{into_iter_items, into_iter_len}
-use Rattle.hand_kept.specs.declared.handle.Handle.{Handle}
+use Rattle.pcml_cells.specs.declared.handle.Handle.{Handle}
 use Rattle.pcml_cells.proofs.tables.keep_all.Given as goal
 
 -- the first handles keep the first boxes, and the others are left

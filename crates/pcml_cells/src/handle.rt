@@ -1,7 +1,7 @@
 //! What C keeps of a value on the heap: its address, or null.
 
 ghost use Rattle.std.specs.Prelude.{◌≡◌, Some, None, IfSome, IfNone};
-ghost use Rattle.hand_kept.specs.Owned.{InHandle, handle_owns, kept_coded};
+ghost use Rattle.pcml_cells.specs.Owned.{InHandle, handle_owns, kept_coded};
 
 use crate::parts::Parts;
 use cell_hand::Kept;

@@ -13,8 +13,8 @@ use Rattle.std_alloc.proofs.SendSync.{quiet, lies}
 use Rattle.std_heap.proofs.Global.TheSendSync as global
 use Rattle.cell_hand.specs.contracts.kept.Kept as Kept
 use Rattle.cell_hand.proofs.Crossing.{kept_send}
-use Rattle.hand_kept.specs.Owned.{InHandle, handle_owns}
-use Rattle.hand_kept.specs.contracts.handle.Handle.{the_row, the_type}
+use Rattle.pcml_cells.specs.Owned.{InHandle, handle_owns}
+use Rattle.pcml_cells.specs.contracts.handle.Handle.{the_row, the_type}
 
 owned : (a : Global) (p : Ptr) (x : InHandle) → Keyless (handle_owns a p x)
 owned a p None = tt

@@ -30,9 +30,9 @@ use Rattle.std.specs.contracts.impls.GlobalAllocator.TheImpl.{ghosts}
 use Rattle.std.proofs.GlobalToken.{dealloc_token-Testable}
 use Rattle.std_alloc.specs.Box.Ownership.{box_owns}
 use Rattle.cell_hand.specs.contracts.kept.Kept as Held
-use Rattle.hand_kept.specs.Owned.{InHandle, handle_owns}
-use Rattle.hand_kept.specs.contracts.handle.Handle as handle
-use Rattle.hand_kept.specs.contracts.parts.Parts as parts
+use Rattle.pcml_cells.specs.Owned.{InHandle, handle_owns}
+use Rattle.pcml_cells.specs.contracts.handle.Handle as handle
+use Rattle.pcml_cells.specs.contracts.parts.Parts as parts
 
 abbrev pub both : Val → Val → Val
 both v w = vstruct (vcons v (vcons w vnil))
