@@ -16,8 +16,8 @@ use Rattle.cell.specs.Calls.{GridOf, IsPassOf, PassOf}
 use Rattle.journal.specs.Concluding.{AreStanding, StandsIn}
 use Rattle.runtime_worker.specs.declared.resident.Rest.{Rest}
 use Rattle.runtime_worker.specs.declared.resident.Suspended.{Suspended}
-use Rattle.runtime_worker.specs.declared.worker.Left.{Left}
-use Rattle.runtime_worker.specs.Workers.{IsLeftOf}
+use Rattle.runtime_worker.specs.declared.worker.Leavings.{Leavings}
+use Rattle.runtime_worker.specs.Workers.{IsLeavingsOf}
 use Rattle.runtime_run.specs.Workers.{AreParted}
 use Rattle.runtime_worker.specs.Machines.{AreNew, IsAtRest, IsMachineOf, doings}
 use Rattle.runtime_run.specs.Machines.{AreLeft, AreLeftBy, AreOut, ComesFrom, StandsOver, machine_in}
@@ -29,7 +29,7 @@ contains_map f [] x h = absurd (omega (arith, h.1))
 contains_map f (y ∷ xs) x (zero, lt, e) = (0, omega arith, ap f e)
 contains_map f (y ∷ xs) x (suc i, lt, e) = let h = contains_map f xs x (i, omega (arith, lt), e) in (suc h.0, omega (arith, h.1), h.2)
 
-some_left : (left : List Left) (k : ℕ) → k < length left → (l : Left) × (slice_get left k ≡ Some l)
+some_left : (left : List Leavings) (k : ℕ) → k < length left → (l : Leavings) × (slice_get left k ≡ Some l)
 some_left [] k lt = absurd (omega (arith, lt))
 some_left (l ∷ left) zero lt = (l, refl)
 some_left (l ∷ left) (suc k) lt = some_left left k (omega (arith, lt))
@@ -61,23 +61,23 @@ over_rest first l told r results h = record {
 abbrev pub RestWith : List (Option Suspended) → List (PassOf Suspended) → List Rest → Type 0
 RestWith first passes rests = (r : Rest) → Contains rests r → (p : PassOf Suspended) × Contains passes p × IsAtRest first p.results r
 
-pub rest_with : (cells : GridOf Suspended) (left : List Left) (passes : List (PassOf Suspended)) (rests : List Rest) → All (λ l. IsLeftOf cells l) left → AreParted left passes rests → RestWith cells.first passes rests
+pub rest_with : (cells : GridOf Suspended) (left : List Leavings) (passes : List (PassOf Suspended)) (rests : List Rest) → All (λ l. IsLeavingsOf cells l) left → AreParted left passes rests → RestWith cells.first passes rests
 rest_with cells left passes rests all parted r has =
     let w = parted.1 r has in
-    let here = all_at (λ (l : Left). IsLeftOf cells l) left w.0 all w.1 in (
+    let here = all_at (λ (l : Leavings). IsLeavingsOf cells l) left w.0 all w.1 in (
       w.0.pass,
-      subst (λ (ps : List (PassOf Suspended)). Contains ps w.0.pass) (sym parted.0) (contains_map (λ (l : Left). l.pass) left w.0 w.1),
+      subst (λ (ps : List (PassOf Suspended)). Contains ps w.0.pass) (sym parted.0) (contains_map (λ (l : Leavings). l.pass) left w.0 w.1),
       all_at (IsAtRest cells.first w.0.pass.results) w.0.rests.items r here.1 w.2,
     )
 
-pub passes_of : (cells : GridOf Suspended) (left : List Left) (passes : List (PassOf Suspended)) (rests : List Rest) → All (λ l. IsLeftOf cells l) left → AreParted left passes rests → All (λ p. IsPassOf cells p) passes
+pub passes_of : (cells : GridOf Suspended) (left : List Leavings) (passes : List (PassOf Suspended)) (rests : List Rest) → All (λ l. IsLeavingsOf cells l) left → AreParted left passes rests → All (λ p. IsPassOf cells p) passes
 passes_of cells left passes rests all parted =
-    all_is (λ (p : PassOf Suspended). IsPassOf cells p) (map (λ (l : Left). l.pass) left) passes (sym parted.0) (λ k d lt.
-    let within : k < length left = omega (arith, lt, length-map left (λ (l : Left). l.pass)) in
+    all_is (λ (p : PassOf Suspended). IsPassOf cells p) (map (λ (l : Leavings). l.pass) left) passes (sym parted.0) (λ k d lt.
+    let within : k < length left = omega (arith, lt, length-map left (λ (l : Leavings). l.pass)) in
     let w = some_left left k within in
-    let is : slice_get (map (λ (l : Left). l.pass) left) k ≡ Some w.0.pass = slice_get-map (λ (l : Left). l.pass) left k ∙ ap (option_map (λ (l : Left). l.pass)) w.1 in
-    subst (λ (p : PassOf Suspended). IsPassOf cells p) (sym (get_or_from_slice_get (map (λ (l : Left). l.pass) left) k w.0.pass d is))
-    (subst (λ (l : Left). IsLeftOf cells l) (get_or_from_slice_get left k w.0 w.0 w.1) (all k w.0 within)).0)
+    let is : slice_get (map (λ (l : Leavings). l.pass) left) k ≡ Some w.0.pass = slice_get-map (λ (l : Leavings). l.pass) left k ∙ ap (option_map (λ (l : Leavings). l.pass)) w.1 in
+    subst (λ (p : PassOf Suspended). IsPassOf cells p) (sym (get_or_from_slice_get (map (λ (l : Leavings). l.pass) left) k w.0.pass d is))
+    (subst (λ (l : Leavings). IsLeavingsOf cells l) (get_or_from_slice_get left k w.0 w.0 w.1) (all k w.0 within)).0)
 
 pub parted_none : AreParted [] [] []
 parted_none = (refl, λ r has. absurd (omega (arith, has.1)))
@@ -87,9 +87,9 @@ nothing_left [] e = refl
 nothing_left (x ∷ xs) e = absurd (omega (arith, e))
 
 -- the passes and the machines of one worker more
-pub parted_more : (left : List Left) (passes : List (PassOf Suspended)) (rests : List Rest) (l : Left) → AreParted left passes rests → AreParted (left ++ l ∷ []) (passes ++ l.pass ∷ []) (rests ++ l.rests.items)
+pub parted_more : (left : List Leavings) (passes : List (PassOf Suspended)) (rests : List Rest) (l : Leavings) → AreParted left passes rests → AreParted (left ++ l ∷ []) (passes ++ l.pass ∷ []) (rests ++ l.rests.items)
 parted_more left passes rests l parted = (
-  ap (λ (ps : List (PassOf Suspended)). ps ++ l.pass ∷ []) parted.0 ∙ sym (map-append (λ (x : Left). x.pass) left (l ∷ [])),
+  ap (λ (ps : List (PassOf Suspended)). ps ++ l.pass ∷ []) parted.0 ∙ sym (map-append (λ (x : Leavings). x.pass) left (l ∷ [])),
   λ r has. ⊎_elim
       (λ old. let w = parted.1 r old in (w.0, Contains-append_left left (l ∷ []) w.0 w.1, w.2))
       (λ new. (l, Contains-append_right left (l ∷ []) l (0, omega arith, refl), new))

@@ -3,7 +3,7 @@
 ghost use Rattle.std.specs.Prelude.{◌≡◌, [], All, IfNone, IfOk, IfSome};
 ghost use Rattle.meet.specs.Rooms.{IsMeetPassOf};
 ghost use Rattle.meet_queues.specs.Ends.{IsEndOf};
-ghost use Rattle.runtime_worker.specs.Workers.{IsLeftOf, IsNewPassOf, IsNewWorkerOf};
+ghost use Rattle.runtime_worker.specs.Workers.{IsLeavingsOf, IsNewPassOf, IsNewWorkerOf};
 ghost use Rattle.runtime_run.specs.Workers.{AreParted};
 
 use crate::fault::told_first;
@@ -11,7 +11,7 @@ use cell::{Cells, Pass, StepGate};
 use core::thread::Stack;
 use meet::MeetPass;
 use meet_queues::ReadyEnd;
-use runtime_worker::{Crew, Gate, Halt, Left, Rest, Suspended, Worked, Worker};
+use runtime_worker::{Crew, Gate, Halt, Leavings, Rest, Suspended, Worked, Worker};
 use std::alloc::{AllocError, Global};
 use std::snapshot::Snapshot;
 use std::sync::Wait;
@@ -29,7 +29,7 @@ struct GivesBack {
 }
 
 impl Promise<Worked> for GivesBack {
-    ghost kept_by = { λ side worked. IsLeftOf side.cells.value worked.left };
+    ghost kept_by = { λ side worked. IsLeavingsOf side.cells.value worked.left };
 }
 
 fn gives_back(cells: &Cells<Suspended>) -> GivesBack
@@ -82,9 +82,9 @@ pub(crate) fn workers_of<R, G>(
 pub(crate) fn all_work<R: Threads + Wait + Sync, G: Gate + StepGate + Sync>(
     crew: &Crew<'_, R, G>,
     workers: Vec<Worker>,
-) -> Result<Vec<Left>, Halt>
+) -> Result<Vec<Leavings>, Halt>
     requires { All (λ w. IsNewWorkerOf crew.now.cells.now crew.now.shared.now w) workers.items }
-    ensures { IfOk result (λ back. All (λ l. IsLeftOf crew.now.cells.now l) back.items) }
+    ensures { IfOk result (λ back. All (λ l. IsLeavingsOf crew.now.cells.now l) back.items) }
 {
     if workers.len() == 1 {
         return work_alone(crew, workers);
@@ -101,10 +101,10 @@ pub(crate) fn all_work<R: Threads + Wait + Sync, G: Gate + StepGate + Sync>(
     thread::scope(
         thread::scope_env(),
         rt,
-        |scope| -> Result<Vec<Left>, Halt>
+        |scope| -> Result<Vec<Leavings>, Halt>
             requires workers { All (λ w. IsNewWorkerOf cells.now shared.now w) workers.items }
             requires handles { handles.items ≡ [] }
-            ensures { IfOk result (λ back. All (λ l. IsLeftOf cells.entry.now l) back.items) }
+            ensures { IfOk result (λ back. All (λ l. IsLeavingsOf cells.entry.now l) back.items) }
         {
             let crew = Crew {
                 rt,
@@ -166,7 +166,7 @@ fn start<'s, E, R: Threads + Wait + Sync, G: Gate + StepGate + Sync>(
         gives_back(cells),
         move || -> Worked
             requires here { IsNewWorkerOf cells.now shared.now worker }
-            ensures { IsLeftOf cells.entry.now result.left }
+            ensures { IsLeavingsOf cells.entry.now result.left }
         {
             let crew = Crew {
                 rt,
@@ -185,9 +185,9 @@ fn start<'s, E, R: Threads + Wait + Sync, G: Gate + StepGate + Sync>(
 fn work_alone<R: Wait, G: Gate + StepGate>(
     crew: &Crew<'_, R, G>,
     workers: Vec<Worker>,
-) -> Result<Vec<Left>, Halt>
+) -> Result<Vec<Leavings>, Halt>
     requires { All (λ w. IsNewWorkerOf crew.now.cells.now crew.now.shared.now w) workers.items }
-    ensures { IfOk result (λ back. All (λ l. IsLeftOf crew.now.cells.now l) back.items) }
+    ensures { IfOk result (λ back. All (λ l. IsLeavingsOf crew.now.cells.now l) back.items) }
 {
     let mut workers = workers;
     let mut back = Vec::with_capacity(crew.shared.alloc, 1)?;
@@ -207,9 +207,9 @@ fn join_all<R: Threads>(
     cells: &Cells<Suspended>,
     handles: Vec<Handle>,
     halted: Option<Halt>,
-) -> Result<Vec<Left>, Halt>
+) -> Result<Vec<Leavings>, Halt>
     requires { All (λ h. h.promise.cells.value ≡ cells.now) handles.items }
-    ensures { IfOk result (λ back. All (λ l. IsLeftOf cells.now l) back.items) }
+    ensures { IfOk result (λ back. All (λ l. IsLeavingsOf cells.now l) back.items) }
 {
     let mut halted = halted;
     let mut back = Vec::new(alloc);
@@ -231,13 +231,13 @@ fn join_all<R: Threads>(
 /// The passes, and the machines at rest apart from them.
 pub(crate) fn parted(
     alloc: Global,
-    left: Vec<Left>,
+    left: Vec<Leavings>,
 ) -> Result<(Vec<Pass<Suspended>>, Vec<Rest>), AllocError>
     ensures { IfOk result (λ apart. AreParted left.items apart.0.items apart.1.items) }
 {
     let mut passes = Vec::with_capacity(alloc, left.len())?;
     let mut rests = Vec::new(alloc);
-    for Left { pass, rests: more } in left {
+    for Leavings { pass, rests: more } in left {
         let mut more = more;
         passes.push(pass)?;
         rests.append(&mut more)?;

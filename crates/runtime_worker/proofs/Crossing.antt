@@ -17,7 +17,7 @@ use Rattle.runtime_worker.specs.contracts.activity.Activity as Activity
 use Rattle.runtime_worker.specs.contracts.notes.Notes as Notes
 use Rattle.runtime_worker.specs.contracts.crew.Shared as Shared
 use Rattle.runtime_worker.specs.contracts.resident.Rest as Rest
-use Rattle.runtime_worker.specs.contracts.worker.Left as Left
+use Rattle.runtime_worker.specs.contracts.worker.Leavings as Leavings
 use Rattle.runtime_worker.specs.contracts.worker.Worker as Worker
 use Rattle.runtime_worker.specs.contracts.worker.Worked as Worked
 
@@ -46,8 +46,8 @@ rest_send = declared_send Rest.the_type ((search sendable depth 20), (suspended_
 pub worker_send : IsSend Worker.the_row
 worker_send = declared_send Worker.the_type (passes_send, (Vec-send Rest.the_row rest_send, (lanes_send, (end_send, ((search sendable depth 20), tt)))))
 
-left_send : IsSend Left.the_row
-left_send = declared_send Left.the_type (passes_send, (Vec-send Rest.the_row rest_send, tt))
+left_send : IsSend Leavings.the_row
+left_send = declared_send Leavings.the_type (passes_send, (Vec-send Rest.the_row rest_send, tt))
 
 pub worked_send : IsSend Worked.the_row
 worked_send = declared_send Worked.the_type (left_send, ((search (sendable, crosses) depth 40), tt))

@@ -6,7 +6,7 @@ use Rattle.meet_queues.specs.Ends.{IsEndOf}
 use Rattle.runtime_worker.specs.declared.crew.Crew.{Crew}
 use Rattle.runtime_worker.specs.declared.crew.Shared.{Shared}
 use Rattle.runtime_worker.specs.declared.resident.Suspended.{Suspended}
-use Rattle.runtime_worker.specs.declared.worker.Left.{Left}
+use Rattle.runtime_worker.specs.declared.worker.Leavings.{Leavings}
 use Rattle.runtime_worker.specs.declared.worker.Worker.{Worker}
 use Rattle.runtime_worker.specs.Machines.{AreAtRest, IsTable}
 
@@ -17,8 +17,8 @@ IsWorkerOf crew w =
     × AreAtRest crew.cells.now.first w.pass.results w.rests.items
 
 -- what a worker leaves
-abbrev pub IsLeftOf : GridOf Suspended → Left → Type 0
-IsLeftOf cells l = IsPassOf cells l.pass × AreAtRest cells.first l.pass.results l.rests.items
+abbrev pub IsLeavingsOf : GridOf Suspended → Leavings → Type 0
+IsLeavingsOf cells l = IsPassOf cells l.pass × AreAtRest cells.first l.pass.results l.rests.items
 
 -- a pass of the table that has seen nothing opened or bound and no thread end, and has begun with no thread
 abbrev pub IsNewPassOf : GridOf Suspended → PassOf Suspended → Type 0

@@ -21,4 +21,4 @@ pub use crate::gate::Gate;
 pub use crate::halt::Halt;
 pub use crate::notes::Notes;
 pub use crate::resident::{Rest, Suspended};
-pub use crate::worker::{Left, Worked, Worker};
+pub use crate::worker::{Leavings, Worked, Worker};

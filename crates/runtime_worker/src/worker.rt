@@ -1,7 +1,7 @@
 //! One worker: the first turns of its threads, and then turn after turn of whichever thread is ready.
 
 ghost use Rattle.meet_queues.specs.Ends.{IsEndOf};
-ghost use Rattle.runtime_worker.specs.Workers.{IsLeftOf, IsNewWorkerOf, IsWorkerOf};
+ghost use Rattle.runtime_worker.specs.Workers.{IsLeavingsOf, IsNewWorkerOf, IsWorkerOf};
 
 use crate::crew::Crew;
 use crate::gate::Gate;
@@ -37,7 +37,7 @@ pub struct Worker {
 
 /// What a worker leaves: its pass, and the machines at rest.
 #[derive(Drop)]
-pub struct Left {
+pub struct Leavings {
     pub pass: Pass<Suspended>,
     pub rests: Vec<Rest>,
 }
@@ -45,7 +45,7 @@ pub struct Left {
 /// What a worker gives back: what it leaves, and whether it came to the end.
 #[derive(Drop)]
 pub struct Worked {
-    pub left: Left,
+    pub left: Leavings,
     pub done: Result<(), Halt>,
 }
 
@@ -53,7 +53,7 @@ impl<R: Wait, G: Gate + StepGate> Crew<'_, R, G> {
     /// All turns of one worker. Where it halts, all workers stop.
     pub fn work_on(&self, worker: Worker) -> Worked
         requires { IsNewWorkerOf self.now.cells.now self.now.shared.now worker }
-        ensures { IsLeftOf self.now.cells.now result.left }
+        ensures { IsLeavingsOf self.now.cells.now result.left }
     {
         let mut worker = worker;
         let done = self.all_turns(&mut worker);
@@ -62,7 +62,7 @@ impl<R: Wait, G: Gate + StepGate> Crew<'_, R, G> {
         }
         let Worker { pass, rests, .. } = worker;
         Worked {
-            left: Left { pass, rests },
+            left: Leavings { pass, rests },
             done,
         }
     }

@@ -2,7 +2,7 @@ use Rattle.std.proofs.Common.{◌≡◌, ◌∷◌, [], ◌++◌, ◌∙◌, Lis
 use Rattle.cell.specs.Calls.{PassOf}
 use Rattle.runtime_worker.specs.declared.resident.Rest.{Rest}
 use Rattle.runtime_worker.specs.declared.resident.Suspended.{Suspended}
-use Rattle.runtime_worker.specs.declared.worker.Left.{Left}
+use Rattle.runtime_worker.specs.declared.worker.Leavings.{Leavings}
 use Rattle.runtime_run.specs.Workers.{AreParted}
 use Rattle.runtime_run.proofs.Resting.{nothing_left, parted_more, parted_none}
 use Rattle.runtime_run.proofs.workers.parted.Goals as goal
@@ -16,9 +16,9 @@ loop-pass-init c = record {
 pub loop-pass-preserved : goal.loop-pass-preserved
 loop-pass-preserved c =
     let i = c.loop-pass.invariant in
-    let l : Left = c.in-Some.field-0 in
+    let l : Leavings = c.in-Some.field-0 in
     record {
-      whole = i.whole ∙ ap (λ (xs : List Left). c.loop-pass.yielded ++ xs) c.in-Some.ensures.steps.0 ∙ sym (append_assoc c.loop-pass.yielded (l ∷ []) c.next.new.self.rest.items);
+      whole = i.whole ∙ ap (λ (xs : List Leavings). c.loop-pass.yielded ++ xs) c.in-Some.ensures.steps.0 ∙ sym (append_assoc c.loop-pass.yielded (l ∷ []) c.next.new.self.rest.items);
       parted = subst (λ (z : List (PassOf Suspended) × List Rest). AreParted (c.loop-pass.yielded ++ l ∷ []) z.0 z.1) (λ k. (sym c.in_ok-push.ensures.items k, sym c.in_ok-append.ensures.items k))
           (parted_more c.loop-pass.yielded c.loop-pass.passes.items c.loop-pass.rests.items l i.parted);
     }
@@ -28,5 +28,5 @@ returns c =
     let i = c.loop-pass.invariant in
     let rest = c.loop-pass.pass-iterator.rest.items in
     let none : rest ≡ [] = nothing_left rest (omega (arith, c.in-None.ensures.steps.0, c.loop-pass.pass-iterator.rest.ok)) in
-    let whole : c.args.left.items ≡ c.loop-pass.yielded = i.whole ∙ ap (λ (xs : List Left). c.loop-pass.yielded ++ xs) none ∙ append-nil c.loop-pass.yielded in
-    subst (λ (ls : List Left). AreParted ls c.loop-pass.passes.items c.loop-pass.rests.items) (sym whole) i.parted
+    let whole : c.args.left.items ≡ c.loop-pass.yielded = i.whole ∙ ap (λ (xs : List Leavings). c.loop-pass.yielded ++ xs) none ∙ append-nil c.loop-pass.yielded in
+    subst (λ (ls : List Leavings). AreParted ls c.loop-pass.passes.items c.loop-pass.rests.items) (sym whole) i.parted
