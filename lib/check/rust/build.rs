@@ -7,7 +7,7 @@ fn main() {
         Some(folder) => PathBuf::from(folder),
         None => {
             PathBuf::from(std::env::var_os("CARGO_MANIFEST_DIR").expect("cargo names its folder"))
-                .join("../out")
+                .join("../../out")
         }
     };
     let archive = folder.join("libpcml_check.a");

@@ -1,8 +1,8 @@
 // A test of Go's channels: what two goroutines did is written as a journal, and judged. To run it: go run judged.go
 package main
 
-// #cgo CFLAGS: -I${SRCDIR}/../include
-// #cgo LDFLAGS: -L${SRCDIR}/../out -lpcml_check
+// #cgo CFLAGS: -I${SRCDIR}/../../include
+// #cgo LDFLAGS: -L${SRCDIR}/../../out -lpcml_check
 // #include <pcml_check.h>
 import "C"
 
