@@ -25,8 +25,8 @@ ghost use Rattle.protocol_ledger.specs.Acting.{ActsAs, EndsAt, HasStart, acts_in
 use crate::board::Board;
 use crate::view::{Shape, View};
 use atomic_table::{Closed, Seat};
-use protocol_values::{Cell, Row, unpack_cell};
 use protocol_ledger::{Ledger, Resident, Starts};
+use protocol_values::{Cell, Row, unpack_cell};
 use std::alloc::Global;
 
 impl<M: Resident + Drop> Board<M> {
