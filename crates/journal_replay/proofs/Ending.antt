@@ -8,7 +8,7 @@ use Rattle.thread.specs.declared.machine.Turn.{Turn}
 use Rattle.thread.specs.declared.machine.Turn.TheVariants.{Offering, Ended, Faulted}
 use Rattle.thread.specs.Machines.{Thread, Phase, Ready, Open, Over, Stuck, Broken, IsAfterAt, HasStopped, Tells, nacks_in, offers_in}
 use Rattle.protocol_values.specs.declared.Commit.{Commit}
-use Rattle.thread_stand.specs.declared.end.End.TheVariants.{Unstarted}
+use Rattle.thread.specs.declared.end.End.TheVariants.{Unstarted}
 use Rattle.journal_replay.specs.declared.state.State.{State}
 use Rattle.thread_stand.specs.declared.strand.Strand.{Strand}
 use Rattle.journal_replay.specs.Replays.{OpensAs, StandsAfter}

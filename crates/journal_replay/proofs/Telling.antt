@@ -5,7 +5,7 @@ use Rattle.std.proofs.lemmas.Option.{same_Some, some_pair_parts}
 use Rattle.script_tree.specs.Processes.{Proc}
 use Rattle.thread.specs.After.{after}
 use Rattle.protocol_values.specs.declared.Atom.{Atom}
-use Rattle.thread_stand.specs.declared.end.End.{End}
+use Rattle.thread.specs.declared.end.End.{End}
 use Rattle.journal_replay.specs.Runs.{Config, EndsAs, end_of}
 use Rattle.journal_replay.proofs.Lists.{slice_get-more}
 

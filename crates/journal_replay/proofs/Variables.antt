@@ -20,8 +20,8 @@ use Rattle.journal_replay.specs.Runs.{Config, EndsAs, Starts, config_of, end_of}
 use Rattle.journal_replay.specs.Standing.{MachineStands, StrandStands}
 use Rattle.journal_replay.specs.Variables.{StandsWith}
 use Rattle.thread_stand.specs.Strands.{variables_at}
-use Rattle.thread_stand.specs.declared.end.End.{End}
-use Rattle.thread_stand.specs.declared.end.End.TheVariants.{Ended, Faulted, Unstarted, Waiting}
+use Rattle.thread.specs.declared.end.End.{End}
+use Rattle.thread.specs.declared.end.End.TheVariants.{Ended, Faulted, Unstarted, Waiting}
 use Rattle.journal_replay.specs.declared.state.State.{State}
 use Rattle.thread_stand.specs.declared.strand.Strand.{Strand}
 

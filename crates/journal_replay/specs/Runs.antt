@@ -16,8 +16,8 @@ use Rattle.protocol_values.specs.declared.Row.{Row}
 use Rattle.protocol_values.specs.Commits.{stamp_of}
 pub use Rattle.protocol_values.specs.Commits.{message_by}
 pub use Rattle.journal_replay.specs.Starting.{Config, no_results, HasThread, IsRow, HasRow, HasEnded, Starts, CountsOf}
-use Rattle.thread_stand.specs.declared.end.End.{End}
-use Rattle.thread_stand.specs.declared.end.End.TheVariants as ends
+use Rattle.thread.specs.declared.end.End.{End}
+use Rattle.thread.specs.declared.end.End.TheVariants as ends
 
 -- after these results the thread of this number offers this event
 pub record IsOffering (ps : List Proc) (t : ℕ) (results : List Chosen) (event : Tree) : Type 0 where

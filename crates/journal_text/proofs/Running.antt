@@ -23,7 +23,7 @@ use Rattle.protocol_values.specs.Commits.{stamp_of}
 use Rattle.script.specs.Sources.{Script}
 use Rattle.journal_text.specs.Names.{Declared, names_of}
 use Rattle.journal_text.specs.Journals.{HasAtom, HasMessage, HasPlace, HasCause, HasLine}
-use Rattle.thread_stand.specs.declared.end.End.{End}
+use Rattle.thread.specs.declared.end.End.{End}
 use Rattle.journal_replay.specs.Runs.{Config, CanTake, EndsAs, Follows, IsCaused, IsLegal, IsRun, MayTake, applied, config_from, config_of, end_of, no_results, with_result}
 use Rattle.journal_replay.proofs.Counting.{Short, all_syncs, grows, syncs_within}
 use Rattle.journal_replay.proofs.Greatest.{more, more-cases}

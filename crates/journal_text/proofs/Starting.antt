@@ -9,8 +9,8 @@ use Rattle.journal_replay.proofs.Starting.{first-spawned}
 use Rattle.journal_order.proofs.Spawners.{no_spawner, none_spawns, spawner_is, text_spawns}
 use Rattle.protocol_values.specs.declared.Atom.{Atom}
 use Rattle.journal_replay.specs.Runs.{end_of}
-use Rattle.thread_stand.specs.declared.end.End.{End}
-use Rattle.thread_stand.specs.declared.end.End.TheVariants as ends
+use Rattle.thread.specs.declared.end.End.{End}
+use Rattle.thread.specs.declared.end.End.TheVariants as ends
 use Rattle.journal_text.specs.Starts.{NoTextSpawns, IsSpawned, StartsWhereSpawned, TextSpawns, UnstartedIsNotStarted}
 
 -- THE LAW

@@ -8,7 +8,7 @@ use Rattle.script.specs.Spelling.{IsSpelled}
 use Rattle.journal_text.specs.Journals.{HasAtom, HasLine, IsFirstBadLine, Spells}
 use Rattle.journal_text.specs.Names.{names_of, named}
 use Rattle.journal_text.specs.Texts.{commits_text}
-use Rattle.thread_stand.specs.declared.end.End.{End}
+use Rattle.thread.specs.declared.end.End.{End}
 use Rattle.journal_replay.specs.Runs.{EndsAs, IsRun, config_of}
 use Rattle.protocol_values.specs.Commits.{most_rows}
 

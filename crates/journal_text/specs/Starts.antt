@@ -7,8 +7,8 @@ use Rattle.thread.specs.After.{Chosen}
 use Rattle.protocol_values.specs.declared.Atom.{Atom}
 use Rattle.journal_replay.specs.Starting.{Config, HasSpawned, Starts}
 use Rattle.journal_replay.specs.Runs.{EndsAs}
-use Rattle.thread_stand.specs.declared.end.End.{End}
-use Rattle.thread_stand.specs.declared.end.End.TheVariants as ends
+use Rattle.thread.specs.declared.end.End.{End}
+use Rattle.thread.specs.declared.end.End.TheVariants as ends
 
 -- no text spawns the process
 abbrev pub NoTextSpawns : List Proc → ℕ → Type 0

@@ -9,8 +9,8 @@ use Rattle.protocol_values.specs.declared.Commit.TheVariants.{Pair, Alone}
 use Rattle.protocol_values.specs.declared.Row.{Row}
 use Rattle.journal_replay.specs.Runs.{Config, CountsFor, IsLegal, MayTake, config_of}
 use Rattle.journal_replay.specs.Starting.{HasRow, HasThread}
-use Rattle.thread_stand.specs.declared.end.End.{End}
-use Rattle.thread_stand.specs.declared.end.End.TheVariants as ends
+use Rattle.thread.specs.declared.end.End.{End}
+use Rattle.thread.specs.declared.end.End.TheVariants as ends
 use Rattle.journal_replay.proofs.Greatest.{greatest-one}
 use Rattle.journal_replay.proofs.Opening.{offering-one}
 use Rattle.journal_replay.proofs.Telling.{ends-one}

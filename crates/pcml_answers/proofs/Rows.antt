@@ -14,8 +14,8 @@ use Rattle.protocol_values.specs.declared.Offer.{Offer}
 use Rattle.protocol_values.specs.declared.Row.{Row}
 use Rattle.journal_replay.specs.Replays.{OpensAs, StandsAfter, TellsEnd, TellsOpen, offered}
 use Rattle.journal_replay.specs.Runs.{Config, EndsAs, IsOffering, MayTake, Starts, config_of, end_of}
-use Rattle.thread_stand.specs.declared.end.End.{End}
-use Rattle.thread_stand.specs.declared.end.End.TheVariants as ends
+use Rattle.thread.specs.declared.end.End.{End}
+use Rattle.thread.specs.declared.end.End.TheVariants as ends
 use Rattle.journal_replay.specs.declared.state.State.{State}
 use Rattle.pcml_answers.specs.Reasons.{IsOpen, IsReason, Needs}
 use Rattle.pcml_answers.specs.Telling.{TellsOffers, TellsRow, is_of, stopped_reason}

@@ -15,8 +15,8 @@ use Rattle.protocol_values.specs.Commits.{stamp_of}
 use Rattle.journal_replay.specs.Runs.{Config, CountsFor, EndsAs, Follows, IsFiredAt, IsGreatest, IsLegal, IsOffering, config_of}
 use Rattle.journal_replay.specs.Starting.{HasRow, HasThread}
 use Rattle.journal_replay.specs.Replays.{IsEnded}
-use Rattle.thread_stand.specs.declared.end.End.{End}
-use Rattle.thread_stand.specs.declared.end.End.TheVariants as end
+use Rattle.thread.specs.declared.end.End.{End}
+use Rattle.thread.specs.declared.end.End.TheVariants as end
 use Rattle.pcml_answers.specs.declared.reason.Reason.{Reason}
 use Rattle.pcml_answers.specs.declared.reason.Reason.TheVariants.{OneThread, Unstarted, Ended, Faulted, Spent, Sync, NoOffer, OtherOffer, NotFired, NotEnded, Stamp}
 

@@ -5,9 +5,9 @@ use Rattle.protocol_values.specs.declared.Atom.{Atom}
 use Rattle.script_tree.specs.Processes.{Proc}
 use Rattle.journal_text.specs.Names.{Naming}
 use Rattle.journal_text.specs.Texts.{atom_text}
-use Rattle.thread_stand.specs.Ends.{end_text}
+use Rattle.thread.specs.Ends.{end_text}
 use Rattle.journal_replay.specs.Runs.{Config, EndsAs}
-use Rattle.thread_stand.specs.declared.end.End.{End}
+use Rattle.thread.specs.declared.end.End.{End}
 
 -- THE LINE OF A PROCESS
 

@@ -10,8 +10,8 @@ use Rattle.protocol_values.specs.declared.Offer.{Offer}
 use Rattle.protocol_values.specs.declared.Row.{Row}
 use Rattle.journal_replay.specs.Replays.{IsEnded, StandsAfter}
 use Rattle.journal_replay.specs.Runs.{IsFiredAt, IsLegal, MayTake, config_of}
-use Rattle.thread_stand.specs.declared.end.End.{End}
-use Rattle.thread_stand.specs.declared.end.End.TheVariants as end
+use Rattle.thread.specs.declared.end.End.{End}
+use Rattle.thread.specs.declared.end.End.TheVariants as end
 use Rattle.journal_replay.specs.declared.state.State.{State}
 use Rattle.pcml_answers.specs.Reasons.{IsReason, Needs, StandsFor}
 use Rattle.pcml_answers.specs.declared.reason.Reason.{Reason}

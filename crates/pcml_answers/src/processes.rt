@@ -7,7 +7,7 @@ ghost use Rattle.pcml_answers.specs.Standings.{TellsStandings, printed_text, pro
 ghost use Rattle.journal_text.specs.Names.{named};
 ghost use Rattle.script.specs.Appending.{Adds};
 
-use thread_stand::End;
+use thread::End;
 use journal_text::push_atom;
 use protocol_values::Atom;
 use script::Script;

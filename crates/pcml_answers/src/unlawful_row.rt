@@ -5,7 +5,7 @@ ghost use Rattle.journal_replay.specs.Replays.{thread_count};
 ghost use Rattle.pcml_answers.specs.Telling.{TellsOffers, TellsRow, is_of, stopped_reason};
 
 use crate::reason::Reason;
-use thread_stand::End;
+use thread::End;
 use journal_replay::State;
 use protocol_values::{Base, Commit, Offer, Row};
 

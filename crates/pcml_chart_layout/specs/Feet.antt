@@ -5,7 +5,7 @@ use Rattle.protocol_values.specs.declared.Atom.{Atom}
 use Rattle.protocol_values.specs.declared.Offer.{Offer}
 use Rattle.journal_text.specs.Names.{Naming}
 use Rattle.journal_text.specs.Texts.{atom_text}
-use Rattle.thread_stand.specs.Ends.{end_text, is_ended, is_waiting}
+use Rattle.thread.specs.Ends.{end_text, is_ended, is_waiting}
 use Rattle.journal_replay.specs.Replays.{TellsEnd, TellsOpen, TellsOutput, thread_count}
 use Rattle.journal_replay.specs.declared.state.State.{State}
 use Rattle.pcml_chart_layout.specs.Most.{most_below}

@@ -11,7 +11,7 @@ ghost use Rattle.script.specs.Appending.{Adds};
 
 use crate::columns::Columns;
 use crate::seen::seen_length;
-use thread_stand::End;
+use thread::End;
 use journal_replay::State;
 use journal_text::push_atom;
 use pcml_why::push_offer;

@@ -7,9 +7,9 @@ use Rattle.std.proofs.lemmas.Option.{none-some, same_Some}
 use Rattle.protocol_values.specs.declared.Atom.{Atom}
 use Rattle.protocol_values.specs.declared.Commit.{Commit}
 use Rattle.script.specs.Sources.{Script}
-use Rattle.thread_stand.specs.declared.end.End.{End}
-use Rattle.thread_stand.specs.declared.end.End.TheVariants.{Ended, Faulted, Spent, Unstarted, Waiting}
-use Rattle.thread_stand.specs.Ends.{is_ended, is_spent, is_waiting}
+use Rattle.thread.specs.declared.end.End.{End}
+use Rattle.thread.specs.declared.end.End.TheVariants.{Ended, Faulted, Spent, Unstarted, Waiting}
+use Rattle.thread.specs.Ends.{is_ended, is_spent, is_waiting}
 use Rattle.journal_replay.specs.Runs.{TellsEnds, config_of, no_results}
 use Rattle.configurations.specs.Alike.{AllRowsLeft}
 use Rattle.outcomes.specs.Asking.{has_unended, has_waiting, leaves_spent, marked, tells}

@@ -6,9 +6,9 @@ use Rattle.std.proofs.lemmas.Bool.{eqb-true, false≢true}
 use Rattle.std.proofs.lemmas.Option.{slice_get_within}
 use Rattle.protocol_values.specs.declared.Commit.{Commit}
 use Rattle.script.specs.Sources.{Script}
-use Rattle.thread_stand.specs.Ends.{is_ended, is_waiting}
-use Rattle.thread_stand.specs.declared.end.End.{End}
-use Rattle.thread_stand.specs.declared.end.End.TheVariants.{Ended, Faulted, Spent, Unstarted, Waiting}
+use Rattle.thread.specs.Ends.{is_ended, is_waiting}
+use Rattle.thread.specs.declared.end.End.{End}
+use Rattle.thread.specs.declared.end.End.TheVariants.{Ended, Faulted, Spent, Unstarted, Waiting}
 use Rattle.journal_replay.specs.Runs.{Config, config_of, no_results}
 use Rattle.journal_replay.proofs.Sounding.{some-at}
 use Rattle.configurations.specs.Alike.{IsAtRest}

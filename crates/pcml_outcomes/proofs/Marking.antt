@@ -5,7 +5,7 @@ use Rattle.std.specs.List.{enumerate_from, zip}
 use Rattle.std.proofs.lemmas.Option.{none-some, same_Some}
 use Rattle.protocol_values.specs.declared.Atom.{Atom}
 use Rattle.journal_text.specs.Names.{Naming}
-use Rattle.thread_stand.specs.declared.end.End.{End}
+use Rattle.thread.specs.declared.end.End.{End}
 use Rattle.outcomes.specs.Asking.{marked}
 use Rattle.pcml_answers.specs.Standings.{Standing, process_line, process_lines}
 use Rattle.pcml_outcomes.specs.Told.{standings}

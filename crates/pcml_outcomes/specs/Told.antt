@@ -9,8 +9,8 @@ use Rattle.protocol_values.specs.declared.Commit.{Commit}
 use Rattle.script.specs.Sources.{Script}
 use Rattle.journal_text.specs.Journals.{HasLine, Spells}
 use Rattle.journal_text.specs.Names.{Naming, named, names_of}
-use Rattle.thread_stand.specs.declared.end.End.{End}
-use Rattle.thread_stand.specs.declared.end.End.TheVariants.{Ended, Spent, Waiting}
+use Rattle.thread.specs.declared.end.End.{End}
+use Rattle.thread.specs.declared.end.End.TheVariants.{Ended, Spent, Waiting}
 use Rattle.configurations.specs.Taking.{heard_by}
 use Rattle.outcomes.specs.Asking.{is_told, marked}
 use Rattle.outcomes.specs.Outcomes.{AreAll, AreDifferent, AreOutcomes, AreVisited, CanSpend, LeadsTo, StopsAtFirst, ends_in, ends_of_all, outputs_in}

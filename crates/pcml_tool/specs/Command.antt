@@ -46,7 +46,7 @@ use Rattle.pcml_texts.specs.Next.{TellsNextOf}
 use Rattle.pcml_tool.specs.Run.{TellsAsked}
 use Rattle.pcml_texts.specs.Stats.{TellsStats}
 use Rattle.pcml_tool.specs.Version.{version_line}
-use Rattle.thread_stand.specs.declared.end.End.{End}
+use Rattle.thread.specs.declared.end.End.{End}
 use Rattle.pcml_texts.specs.declared.replay.Replayed.{Replayed}
 use Rattle.pcml_texts.specs.declared.replay.Replayed.TheVariants as replays
 use Rattle.pcml_tool.specs.declared.answer.Verdict.{Verdict}

@@ -10,8 +10,8 @@ use Rattle.journal_text.specs.Names.{names_of, named}
 use Rattle.journal_text.specs.Texts.{commits_text}
 use Rattle.journal_ledger.specs.Ledgers.{IsLedgerOf}
 use Rattle.journal_replay.specs.Runs.{IsRun, config_of}
-use Rattle.thread_stand.specs.declared.end.End.{End}
-use Rattle.thread_stand.specs.declared.end.End.TheVariants.{Spent}
+use Rattle.thread.specs.declared.end.End.{End}
+use Rattle.thread.specs.declared.end.End.TheVariants.{Spent}
 use Rattle.runtime_run.specs.Headline.{IsFreeRun, IsMaximalRun}
 use Rattle.runtime.specs.Played.{ArePlayedWithin}
 use Rattle.journal.specs.declared.record.Record.{Record}

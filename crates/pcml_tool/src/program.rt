@@ -26,7 +26,7 @@ use crate::searching::{asked_of, keep_outcome};
 use crate::seeking::answer_sought;
 use crate::{RunText, explain_text, meet_text, run_parts, run_seasons_parts, version_text};
 use pcml_texts::why_standing;
-use thread_stand::End;
+use thread::End;
 use outcomes::{Watch, has_unended};
 use pcml_answers::named_processes;
 use pcml_files::{MOST_BYTES, Source, emit};

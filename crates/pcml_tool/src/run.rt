@@ -18,7 +18,7 @@ ghost use Rattle.pcml_tool.specs.Run.{tail_line, TellsFreelyOf, TellsRecord, Tel
 ghost use Rattle.pcml_answers.specs.Standings.{TellsStandings};
 
 use journal::Record;
-use thread_stand::End;
+use thread::End;
 use journal_replay::State;
 use journal_text::write_journal;
 use pcml_answers::standing_lines;

@@ -14,8 +14,8 @@ use Rattle.script.specs.Sources.{Script}
 use Rattle.journal_text.specs.Names.{Naming, named}
 use Rattle.journal_text.specs.Texts.{message_text, nack_text}
 use Rattle.journal_replay.specs.Replays.{TellsEnabled, TellsEnded, TellsFired, ended_by, fired_by}
-use Rattle.thread_stand.specs.declared.end.End.{End}
-use Rattle.thread_stand.specs.declared.end.End.TheVariants.{Ended, Waiting, Spent, Faulted, Unstarted}
+use Rattle.thread.specs.declared.end.End.{End}
+use Rattle.thread.specs.declared.end.End.TheVariants.{Ended, Waiting, Spent, Faulted, Unstarted}
 use Rattle.journal_replay.specs.declared.state.State.{State}
 use Rattle.script_token.specs.Lexemes.{placed_tokens}
 use Rattle.pcml_why_sites.specs.Edges.{edges_text}
@@ -23,7 +23,7 @@ use Rattle.pcml_why_sites.specs.Knots.{IsKnot, waits_for}
 use Rattle.pcml_why_sites.specs.Sites.{AreSites}
 use Rattle.pcml_why_sites.specs.Writing.{Written, texts_below}
 use Rattle.pcml_why_sites.specs.Offering.{is_open, others}
-use Rattle.thread_stand.specs.Ends.{is_waiting}
+use Rattle.thread.specs.Ends.{is_waiting}
 use Rattle.pcml_why.specs.Variables.{variables_text, wrong_text}
 use Rattle.pcml_why_sites.specs.declared.site.Site.{Site}
 use Rattle.protocol_values.specs.declared.Side.{Side}

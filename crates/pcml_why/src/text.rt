@@ -14,7 +14,7 @@ ghost use Rattle.script.specs.Appending.{Adds};
 
 use crate::served::{Answer, answers_of, is_by_nobody};
 use crate::variables::Namer;
-use thread_stand::End;
+use thread::End;
 use journal_replay::State;
 use journal_text::{push_channel, push_message, push_nack, push_thread};
 use pcml_why_sites::{Site, WaitGraph, is_open, others, process_texts, sites_at};

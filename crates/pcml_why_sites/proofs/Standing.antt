@@ -17,8 +17,8 @@ use Rattle.journal_replay.specs.Lines.{trees_in}
 use Rattle.journal_replay.specs.Replays.{StandsAfter, TellsEnd}
 use Rattle.journal_replay.specs.Runs.{Config, applied, config_of, with_result}
 use Rattle.journal_replay.specs.Variables.{TellsVariables}
-use Rattle.thread_stand.specs.declared.end.End.{End}
-use Rattle.thread_stand.specs.declared.end.End.TheVariants.{Waiting, Ended, Spent, Faulted, Unstarted}
+use Rattle.thread.specs.declared.end.End.{End}
+use Rattle.thread.specs.declared.end.End.TheVariants.{Waiting, Ended, Spent, Faulted, Unstarted}
 use Rattle.journal_replay.specs.declared.state.State.{State}
 use Rattle.journal_replay.proofs.Sounding.{take-one}
 use Rattle.journal_replay.proofs.Standing.{config_of-more, result-at, result-other}

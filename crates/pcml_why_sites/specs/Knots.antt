@@ -6,7 +6,7 @@ use Rattle.protocol_values.specs.declared.Base.{Base}
 use Rattle.protocol_values.specs.declared.Base.TheVariants.{Send, Recv, Always, OnNack, OnEnd, Never}
 use Rattle.protocol_values.specs.declared.Offer.{Offer}
 use Rattle.pcml_why_sites.specs.Offering.{is_open}
-use Rattle.thread_stand.specs.Ends.{is_waiting}
+use Rattle.thread.specs.Ends.{is_waiting}
 use Rattle.pcml_why_sites.specs.Writing.{Written, could_offer}
 use Rattle.pcml_why_sites.specs.declared.site.Site.{Site}
 use Rattle.protocol_values.specs.declared.Side.TheVariants.{Sends, Receives}

@@ -3,7 +3,7 @@ use Rattle.std.specs.Prelude.{◌==◌, ◌&&◌, ℕ, zero, suc, Bool, true, fa
 use Rattle.std.specs.List.{list_any}
 use Rattle.protocol_values.specs.Values.{is_on}
 use Rattle.protocol_values.specs.declared.NackName.{NackName}
-use Rattle.thread_stand.specs.Ends.{is_waiting}
+use Rattle.thread.specs.Ends.{is_waiting}
 use Rattle.pcml_why_sites.specs.declared.site.Site.{Site}
 use Rattle.protocol_values.specs.declared.Side.{Side}
 

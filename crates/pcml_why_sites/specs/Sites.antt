@@ -13,8 +13,8 @@ use Rattle.protocol_values.specs.declared.Commit.{Commit}
 use Rattle.journal_replay.specs.Lines.{TellsLine}
 use Rattle.journal_replay.specs.Replays.{TellsEnd, TellsOpen, thread_count}
 use Rattle.journal_replay.specs.Runs.{config_of}
-use Rattle.thread_stand.specs.declared.end.End.{End}
-use Rattle.thread_stand.specs.declared.end.End.TheVariants.{Waiting, Faulted}
+use Rattle.thread.specs.declared.end.End.{End}
+use Rattle.thread.specs.declared.end.End.TheVariants.{Waiting, Faulted}
 use Rattle.journal_replay.specs.declared.state.State.{State}
 use Rattle.pcml_why_sites.specs.declared.site.Site.{Site}
 

@@ -3,7 +3,7 @@
 ghost use Rattle.std.specs.Prelude.{◌≡◌, ◌==◌, ◌&&◌, ◌≤◌, ℕ, IfOk, length, map};
 ghost use Rattle.script_tree.specs.Processes.{proc_of};
 ghost use Rattle.std.specs.List.{list_any};
-ghost use Rattle.thread_stand.specs.Ends.{is_waiting};
+ghost use Rattle.thread.specs.Ends.{is_waiting};
 ghost use Rattle.journal_replay.specs.Replays.{StandsAfter, thread_count};
 ghost use Rattle.script.specs.Scripts.{script_of};
 ghost use Rattle.pcml_why_sites.specs.Offering.{is_open, offers_on, others};
@@ -11,7 +11,7 @@ ghost use Rattle.protocol_values.specs.Values.{is_on};
 ghost use Rattle.pcml_why_sites.specs.Sites.{AreSites};
 
 use crate::results::stand_after;
-use thread_stand::End;
+use thread::End;
 use journal_replay::State;
 use protocol_values::{Atom, Commit, NackName, Offer, Side};
 use script::Script;

@@ -6,8 +6,8 @@ use Rattle.protocol_ledger.specs.Acting.{before_of}
 use Rattle.protocol_ledger.specs.Ledgers.{Ledger}
 use Rattle.protocol_ledger.specs.Openings.{Opening}
 use Rattle.protocol_values.specs.declared.Offer.{Offer}
-use Rattle.thread_stand.specs.declared.end.End.{End}
-use Rattle.thread_stand.specs.declared.end.End.TheVariants.{Spent}
+use Rattle.thread.specs.declared.end.End.{End}
+use Rattle.thread.specs.declared.end.End.TheVariants.{Spent}
 use Rattle.journal_replay.specs.Runs.{config_of}
 use Rattle.journal_ledger.specs.Ledgers.{ProcessOffers}
 use Rattle.journal_ledger.specs.Behind.{GoesOn, run_on}

@@ -16,7 +16,7 @@ ghost use Rattle.runtime.specs.declared.seasons.SeasonFault.TheVariants.{Workers
 
 use crate::season::{AtEnd, Next, first_season, follow, play_season};
 use cell::StepGate;
-use thread_stand::End;
+use thread::End;
 use journal::{Record, conclude_run, retrace_run};
 use protocol_values::Commit;
 use runtime_run::{TurnsOnly, rows_used};

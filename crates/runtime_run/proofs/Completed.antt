@@ -15,8 +15,8 @@ use Rattle.protocol_values.specs.declared.Commit.TheVariants.{Pair, Alone}
 use Rattle.protocol_values.specs.declared.Row.{Row}
 use Rattle.protocol_values.specs.Commits.{IsInOrder}
 use Rattle.protocol_ledger.specs.Ledgers.{Ledger, commits_in}
-use Rattle.thread_stand.specs.declared.end.End.{End}
-use Rattle.thread_stand.specs.declared.end.End.TheVariants.{Spent, Waiting}
+use Rattle.thread.specs.declared.end.End.{End}
+use Rattle.thread.specs.declared.end.End.TheVariants.{Spent, Waiting}
 use Rattle.journal_replay.specs.Runs.{Config, IsLegal, IsMaximal, IsRun, MayTake, TellsEnds, config_of, end_of}
 use Rattle.journal_order.proofs.Meeting.{each-meets}
 use Rattle.journal_order.proofs.Results.{one-row}

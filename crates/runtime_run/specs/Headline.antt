@@ -3,7 +3,7 @@ use Rattle.std.specs.Prelude.{◌≡◌, ◌<◌, ◌≤◌, ℕ, List, length, 
 use Rattle.script_tree.specs.Processes.{Proc}
 use Rattle.protocol_values.specs.declared.Commit.{Commit}
 use Rattle.protocol_values.specs.Commits.{IsInOrder}
-use Rattle.thread_stand.specs.declared.end.End.TheVariants.{Spent}
+use Rattle.thread.specs.declared.end.End.TheVariants.{Spent}
 use Rattle.journal_replay.specs.Runs.{HasRow, IsMaximal, IsRun, TellsEnds, config_of}
 use Rattle.journal_order.specs.Meetings.{Meets}
 use Rattle.journal_order.specs.Messages.{named, received, sent}

@@ -7,9 +7,9 @@ use Rattle.thread_code.specs.declared.Code.{Code}
 use Rattle.script_tree.specs.Lined.{nack_count}
 use Rattle.script_tree.specs.Lined.{Event, Sends, Receives, IsReady, IsNever, IsCancelled, IsJoined, Chooses, Wraps, Guards, Nacks, Events, NoMembers, Members, LoopBody}
 use Rattle.protocol_values.specs.declared.Offer.{Offer}
-use Rattle.thread.specs.declared.stack.Opening.{Opening}
+use Rattle.thread.specs.declared.stack.Offered.{Offered as OfferedSync}
 use Rattle.thread.specs.Standing.{at_line, State, Goes, ◌>>=◌, run_block, synced}
-use Rattle.thread.specs.Fitting.{HasSync, IsOpening}
+use Rattle.thread.specs.Fitting.{HasSync, IsOffered}
 use Rattle.thread.specs.Reaches.{event_reach, members_reach, stages_reach}
 use Rattle.thread.specs.Resolving.{Lists, formed_as, no_lists, run_stages}
 use Rattle.thread.specs.Stacks.{Further, offered, reopened_on, others, own, sync_at, turn_on}
@@ -17,7 +17,7 @@ use Rattle.thread.proofs.Going.{bind_assoc}
 use Rattle.thread.proofs.Staging.{resolves_whole}
 
 -- a sync of this plan that begins behind these lists
-abbrev pub begun : ℕ → Lists → Opening
+abbrev pub begun : ℕ → Lists → OfferedSync
 begun plan l = record { plan = plan; stage = 0; offers = length l.offers; nacks = length l.nacks }
 
 own_none : (plan : ℕ) (l : Lists) → own (begun plan l) l ≡ no_lists
@@ -34,13 +34,13 @@ turn_begins t s =
     ∙ ap (λ x. x >>= run_block t.rest) (bind_assoc r (λ q. Goes (formed_as t.event q.lists q.state)) (synced t.names))
     ∙ bind_assoc r (λ q. synced t.names (formed_as t.event q.lists q.state)) (run_block t.rest)
 
-pub opening_begins : (c : Code) (plan : ℕ) (below : Further) (l : Lists) (s : State) → reopened_on c (begun plan l) below l s ≡ (turn_on (sync_at c plan) s >>= below l)
-opening_begins c plan below l s =
+pub offered_begins : (c : Code) (plan : ℕ) (below : Further) (l : Lists) (s : State) → reopened_on c (begun plan l) below l s ≡ (turn_on (sync_at c plan) s >>= below l)
+offered_begins c plan below l s =
     ap₂ (λ m k. run_stages (sync_at c plan).line (stages 0 0 (sync_at c plan).event) m (at_line (sync_at c plan).line s) >>= offered (sync_at c plan) >>= below k) (own_none plan l) (others_all plan l)
     ∙ ap (λ x. x >>= below l) (sym (turn_begins (sync_at c plan) s))
 
-pub opening_fits : (c : Code) (plan : ℕ) (l : Lists) → HasSync c plan → IsOpening c l (begun plan l)
-opening_fits c plan l sync = record {
+pub offered_fits : (c : Code) (plan : ℕ) (l : Lists) → HasSync c plan → IsOffered c l (begun plan l)
+offered_fits c plan l sync = record {
   sync = sync;
   stage = omega arith;
   first_offer = omega arith;

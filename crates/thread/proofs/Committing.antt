@@ -11,9 +11,9 @@ use Rattle.script_tree.specs.Trees.{names_of}
 use Rattle.script_tree.specs.Lined.{LoopBody, event_of}
 use Rattle.protocol_values.specs.declared.Message.{Message}
 use Rattle.protocol_values.specs.declared.Offer.{Offer}
-use Rattle.thread.specs.declared.stack.Opening.{Opening}
+use Rattle.thread.specs.declared.stack.Offered.{Offered}
 use Rattle.thread.specs.Standing.{State, Outcome, ◌>>=◌, Having, received, run_block}
-use Rattle.thread.specs.Fitting.{IsOpening, masks, nacks_made}
+use Rattle.thread.specs.Fitting.{IsOffered, masks, nacks_made}
 use Rattle.thread.specs.Passing.{Through, Past, pass}
 use Rattle.thread.specs.Resolving.{Lists, tree_as}
 use Rattle.thread.specs.Stacks.{offered, own, place_block, planned, sync_at}
@@ -21,7 +21,7 @@ use Rattle.thread.proofs.Passing.{pass_commits, passes_through}
 use Rattle.thread.proofs.Shaping.{scopes, tree_nacks, tree_offers}
 use Rattle.thread.proofs.Staging.{nacks_of, offers_of}
 
-module _ (c : Code) (l : Lists) (o : Opening) (fits : IsOpening c l o) (whole : o.stage ≡ length (stages 0 0 (sync_at c o.plan).event)) where
+module _ (c : Code) (l : Lists) (o : Offered) (fits : IsOffered c l o) (whole : o.stage ≡ length (stages 0 0 (sync_at c o.plan).event)) where
   all_masks : scopes (own o l).offers ≡ masks (stages 0 0 (sync_at c o.plan).event)
   all_masks = fits.masks ∙ ap masks (take_all o.stage _ (omega (arith, whole)))
 

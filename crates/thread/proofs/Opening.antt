@@ -14,12 +14,12 @@ use Rattle.protocol_values.specs.declared.Offer.{Offer}
 use Rattle.thread.specs.declared.Fault.{Fault}
 use Rattle.thread.specs.declared.stack.Frame.{Frame}
 use Rattle.thread.specs.declared.stack.Frame.TheVariants.{Event}
-use Rattle.thread.specs.declared.stack.Opening.{Opening}
+use Rattle.thread.specs.declared.stack.Offered.{Offered as OfferedSync}
 use Rattle.thread.specs.Standing.{set_line, State, Outcome, Goes, Fails, ◌>>=◌, given, run_block, with_nack}
-use Rattle.thread.specs.Fitting.{FramesFit, HasPlace, IsOpening, masks, nacks_made}
-use Rattle.thread.specs.Reaches.{frames_reach, opening_reach, stages_reach, stmts_reach}
+use Rattle.thread.specs.Fitting.{FramesFit, HasPlace, IsOffered, masks, nacks_made}
+use Rattle.thread.specs.Reaches.{frames_reach, offered_reach, stages_reach, stmts_reach}
 use Rattle.thread.specs.Resolving.{Lists, Listed, base_value, run_stage, run_stages, with_offer, with_scope}
-use Rattle.thread.specs.Stacks.{Further, frames_on, offered, opening_on, others, own, place_block, sync_at}
+use Rattle.thread.specs.Stacks.{Further, frames_on, offered, offered_on, others, own, place_block, sync_at}
 use Rattle.thread.proofs.Going.{bind_assoc, bind_each}
 use Rattle.thread.proofs.Stacking.{at_is, at_there, frame_put, reach_pushed, with_frame_on}
 use Rattle.thread.proofs.Staging.{masks-append, nacks_made-append}
@@ -82,20 +82,20 @@ nack_stage c variable (Made name) h = ap Made (sym h)
 
 -- LISTS
 
-own_offer : (o : Opening) (l : Lists) (x : Offer) → o.offers ≤ length l.offers → own o (record l { offers = l.offers ++ x ∷ [] }) ≡ record (own o l) { offers = (own o l).offers ++ x ∷ [] }
+own_offer : (o : OfferedSync) (l : Lists) (x : Offer) → o.offers ≤ length l.offers → own o (record l { offers = l.offers ++ x ∷ [] }) ≡ record (own o l) { offers = (own o l).offers ++ x ∷ [] }
 own_offer o l x h = ap (λ os. record { offers = os; nacks = drop o.nacks l.nacks }) (drop-append-le o.offers l.offers (x ∷ []) h)
 
-others_offer : (o : Opening) (l : Lists) (x : Offer) → o.offers ≤ length l.offers → others o (record l { offers = l.offers ++ x ∷ [] }) ≡ others o l
+others_offer : (o : OfferedSync) (l : Lists) (x : Offer) → o.offers ≤ length l.offers → others o (record l { offers = l.offers ++ x ∷ [] }) ≡ others o l
 others_offer o l x h = ap (λ os. record { offers = os; nacks = take o.nacks l.nacks }) (take-append-le o.offers l.offers (x ∷ []) h)
 
-own_scope : (o : Opening) (l : Lists) (k : ℕ) → o.nacks ≤ length l.nacks → own o (with_scope k l) ≡ with_scope k (own o l)
+own_scope : (o : OfferedSync) (l : Lists) (k : ℕ) → o.nacks ≤ length l.nacks → own o (with_scope k l) ≡ with_scope k (own o l)
 own_scope o l k h = ap (λ ns. record { offers = drop o.offers l.offers; nacks = ns }) (drop-append-le o.nacks l.nacks (k ∷ []) h)
 
-others_scope : (o : Opening) (l : Lists) (k : ℕ) → o.nacks ≤ length l.nacks → others o (with_scope k l) ≡ others o l
+others_scope : (o : OfferedSync) (l : Lists) (k : ℕ) → o.nacks ≤ length l.nacks → others o (with_scope k l) ≡ others o l
 others_scope o l k h = ap (λ ns. record { offers = take o.offers l.offers; nacks = ns }) (take-append-le o.nacks l.nacks (k ∷ []) h)
 
 -- the next stage
-abbrev pub next : Opening → Opening
+abbrev pub next : OfferedSync → OfferedSync
 next o = record o { stage = o.stage + 1 }
 
 -- what a stage that goes on leads to
@@ -107,7 +107,7 @@ as_scoped l k t = Goes (record { lists = with_scope k l; state = t })
 
 -- STEPS
 
-module _ (c : Code) (o : Opening) (l : Lists) (plan : Plan) (fits : IsOpening c l o) (there : slice_get c.plans.items o.plan ≡ Some plan) where
+module _ (c : Code) (o : OfferedSync) (l : Lists) (plan : Plan) (fits : IsOffered c l o) (there : slice_get c.plans.items o.plan ≡ Some plan) where
   abbrev line : ℕ
   line = (sync_at c o.plan).line
 
@@ -118,7 +118,7 @@ module _ (c : Code) (o : Opening) (l : Lists) (plan : Plan) (fits : IsOpening c 
   are = subst (λ (p : Plan). AreStages c p.stages.items whole) (same_Some fits.sync.plan plan (sym fits.sync.there ∙ there)) fits.sync.is.stages
 
   -- behind the last one the sync is open
-  pub open_does : (below : Further) (s : State) → slice_get plan.stages.items o.stage ≡ None → (offered (sync_at c o.plan) (record { lists = own o l; state = s }) >>= below (others o l)) ≡ opening_on c o below l s
+  pub open_does : (below : Further) (s : State) → slice_get plan.stages.items o.stage ≡ None → (offered (sync_at c o.plan) (record { lists = own o l; state = s }) >>= below (others o l)) ≡ offered_on c o below l s
   open_does below s none = ap (λ ss. run_stages line ss (own o l) s >>= offered (sync_at c o.plan) >>= below (others o l)) (sym (no_stage c plan.stages.items whole o.stage are none).1)
 
   pub open_whole : slice_get plan.stages.items o.stage ≡ None → o.stage ≡ length whole
@@ -130,11 +130,11 @@ module _ (c : Code) (o : Opening) (l : Lists) (plan : Plan) (fits : IsOpening c 
 
     -- what a stage and those behind it do
     stage_does : (below : Further) (s : State) (stage : Stage) → here.stage ≡ stage →
-        opening_on c o below l s ≡ (run_stage line stage (own o l) s >>= (λ r. run_stages line (drop (o.stage + 1) whole) r.lists r.state) >>= offered (sync_at c o.plan) >>= below (others o l))
+        offered_on c o below l s ≡ (run_stage line stage (own o l) s >>= (λ r. run_stages line (drop (o.stage + 1) whole) r.lists r.state) >>= offered (sync_at c o.plan) >>= below (others o l))
     stage_does below s stage is =
         ap (λ ss. run_stages line ss (own o l) s >>= offered (sync_at c o.plan) >>= below (others o l)) (here.here ∙ ap (λ st. st ∷ drop (o.stage + 1) whole) is)
 
-    stage_falls : (stage : Stage) → here.stage ≡ stage → opening_reach c o ≡ 1 + stages_reach (stage ∷ drop (o.stage + 1) whole)
+    stage_falls : (stage : Stage) → here.stage ≡ stage → offered_reach c o ≡ 1 + stages_reach (stage ∷ drop (o.stage + 1) whole)
     stage_falls stage is = ap (λ ss. 1 + stages_reach ss) (here.here ∙ ap (λ st. st ∷ drop (o.stage + 1) whole) is)
 
     masks_so_far : (stage : Stage) → here.stage ≡ stage → masks (take (o.stage + 1) whole) ≡ masks (take o.stage whole) ++ masks (stage ∷ [])
@@ -148,23 +148,23 @@ module _ (c : Code) (o : Opening) (l : Lists) (plan : Plan) (fits : IsOpening c 
     offers : (here (seen.Offer event mask) at).stage ≡ Offered (event_of event.value) mask
     offers = offer_stage c event mask _ (here (seen.Offer event mask) at).is
 
-    pub offer_fails : (below : Further) (s : State) (fault : Fault) → base_value s.store (event_of event.value) ≡ Err fault → Fails fault s ≡ opening_on c o below l s
+    pub offer_fails : (below : Further) (s : State) (fault : Fault) → base_value s.store (event_of event.value) ≡ Err fault → Fails fault s ≡ offered_on c o below l s
     offer_fails below s fault is =
         sym (stage_does (seen.Offer event mask) at below s _ offers
         ∙ ap (λ v. given s v >>= as_offered (own o l) mask s >>= (λ r. run_stages line (drop (o.stage + 1) whole) r.lists r.state) >>= offered (sync_at c o.plan) >>= below (others o l)) is)
 
     module _ (base : Base) (m : Lists) (put : m ≡ with_offer base mask l) where
-      pub offer_does : (below : Further) (s : State) → base_value s.store (event_of event.value) ≡ Ok base → opening_on c (next o) below m s ≡ opening_on c o below l s
+      pub offer_does : (below : Further) (s : State) → base_value s.store (event_of event.value) ≡ Ok base → offered_on c (next o) below m s ≡ offered_on c o below l s
       offer_does below s is =
           ap₂ (λ (p q : Lists). run_stages line (drop (o.stage + 1) whole) p s >>= offered (sync_at c o.plan) >>= below q)
           (ap (own o) put ∙ own_offer o l (record { base = base; scopes = mask }) fits.first_offer) (ap (others o) put ∙ others_offer o l (record { base = base; scopes = mask }) fits.first_offer)
           ∙ sym (stage_does (seen.Offer event mask) at below s _ offers
           ∙ ap (λ v. given s v >>= as_offered (own o l) mask s >>= (λ r. run_stages line (drop (o.stage + 1) whole) r.lists r.state) >>= offered (sync_at c o.plan) >>= below (others o l)) is)
 
-      pub offer_falls : opening_reach c (next o) < opening_reach c o
+      pub offer_falls : offered_reach c (next o) < offered_reach c o
       offer_falls = omega (arith, stage_falls (seen.Offer event mask) at _ offers)
 
-      pub offer_fits : (frames : List Frame) → FramesFit c frames (others o l) → IsOpening c m (next o) × FramesFit c frames (others (next o) m)
+      pub offer_fits : (frames : List Frame) → FramesFit c frames (others o l) → IsOffered c m (next o) × FramesFit c frames (others (next o) m)
       offer_fits frames h =
           let x : Offer = record { base = base; scopes = mask } in
           let mine = ap (own o) put ∙ own_offer o l x fits.first_offer in (
@@ -186,7 +186,7 @@ module _ (c : Code) (o : Opening) (l : Lists) (plan : Plan) (fits : IsOpening c 
     body : (b : Block) × ((here (seen.Body q) at).stage ≡ Performed b) × IsAt c q b
     body = body_stage c q _ (here (seen.Body q) at).is
 
-    pub body_does : (s : State) → (run_block (place_block c q) s >>= frames_on c new l) ≡ opening_on c o (frames_on c old) l s
+    pub body_does : (s : State) → (run_block (place_block c q) s >>= frames_on c new l) ≡ offered_on c o (frames_on c old) l s
     body_does s =
         let b = body.0 in
         let performed = run_block b s >>= set_line line in
@@ -194,13 +194,13 @@ module _ (c : Code) (o : Opening) (l : Lists) (plan : Plan) (fits : IsOpening c 
         let entered : State → Outcome Listed = λ t. Goes (record { lists = own o l; state = t }) in
         ap (λ b. run_block b s >>= frames_on c new l) (at_is c q b body.2)
         ∙ bind_each (run_block b s) _ _ (λ t. with_frame_on c new old (Event (next o)) l t put)
-        ∙ sym (bind_assoc (run_block b s) (set_line line) (opening_on c (next o) (frames_on c old) l))
+        ∙ sym (bind_assoc (run_block b s) (set_line line) (offered_on c (next o) (frames_on c old) l))
         ∙ sym (stage_does (seen.Body q) at (frames_on c old) s _ body.1
         ∙ ap (λ x. x >>= offered (sync_at c o.plan) >>= frames_on c old (others o l)) (bind_assoc performed entered more)
         ∙ ap (λ x. x >>= frames_on c old (others o l)) (bind_assoc performed (λ t. more (record { lists = own o l; state = t })) (offered (sync_at c o.plan)))
         ∙ bind_assoc performed (λ t. more (record { lists = own o l; state = t }) >>= offered (sync_at c o.plan)) (frames_on c old (others o l)))
 
-    pub body_falls : stmts_reach (place_block c q) + frames_reach c new < opening_reach c o
+    pub body_falls : stmts_reach (place_block c q) + frames_reach c new < offered_reach c o
     body_falls = omega (arith, ap stmts_reach (at_is c q body.0 body.2), reach_pushed c new old (Event (next o)) put, stage_falls (seen.Body q) at _ body.1)
 
     pub body_fits : FramesFit c old (others o l) → HasPlace c q × FramesFit c new l
@@ -224,23 +224,23 @@ module _ (c : Code) (o : Opening) (l : Lists) (plan : Plan) (fits : IsOpening c 
     makes : (here (seen.Nack name) at).stage ≡ Made name
     makes = nack_stage c name _ (here (seen.Nack name) at).is
 
-    pub nack_fails : (below : Further) (s : State) (fault : Fault) → with_nack name s ≡ Fails fault s → Fails fault s ≡ opening_on c o below l s
+    pub nack_fails : (below : Further) (s : State) (fault : Fault) → with_nack name s ≡ Fails fault s → Fails fault s ≡ offered_on c o below l s
     nack_fails below s fault is =
         sym (stage_does (seen.Nack name) at below s _ makes
         ∙ ap (λ x. x >>= as_scoped (own o l) s.nacks >>= (λ r. run_stages line (drop (o.stage + 1) whole) r.lists r.state) >>= offered (sync_at c o.plan) >>= below (others o l)) is)
 
     module _ (k : ℕ) (m : Lists) (put : m ≡ with_scope k l) where
-      pub nack_does : (below : Further) (s t : State) → s.nacks ≡ k → with_nack name s ≡ Goes t → opening_on c (next o) below m t ≡ opening_on c o below l s
+      pub nack_does : (below : Further) (s t : State) → s.nacks ≡ k → with_nack name s ≡ Goes t → offered_on c (next o) below m t ≡ offered_on c o below l s
       nack_does below s t same is =
           ap₂ (λ (p q : Lists). run_stages line (drop (o.stage + 1) whole) p t >>= offered (sync_at c o.plan) >>= below q)
           (ap (own o) put ∙ own_scope o l k fits.first_nack ∙ ap (λ n. with_scope n (own o l)) (sym same)) (ap (others o) put ∙ others_scope o l k fits.first_nack)
           ∙ sym (stage_does (seen.Nack name) at below s _ makes
           ∙ ap (λ x. x >>= as_scoped (own o l) s.nacks >>= (λ r. run_stages line (drop (o.stage + 1) whole) r.lists r.state) >>= offered (sync_at c o.plan) >>= below (others o l)) is)
 
-      pub nack_falls : opening_reach c (next o) < opening_reach c o
+      pub nack_falls : offered_reach c (next o) < offered_reach c o
       nack_falls = omega (arith, stage_falls (seen.Nack name) at _ makes)
 
-      pub nack_fits : (frames : List Frame) → FramesFit c frames (others o l) → IsOpening c m (next o) × FramesFit c frames (others (next o) m)
+      pub nack_fits : (frames : List Frame) → FramesFit c frames (others o l) → IsOffered c m (next o) × FramesFit c frames (others (next o) m)
       nack_fits frames h =
           let mine = ap (own o) put ∙ own_scope o l k fits.first_nack in (
             record {

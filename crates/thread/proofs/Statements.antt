@@ -8,15 +8,15 @@ use Rattle.script_tree.specs.Trees.{Test}
 use Rattle.script_tree.specs.Lined.{Block, Runs, Stmt, Syncs, Branches, Loops, LoopsForever, Event, block_of}
 use Rattle.thread.specs.declared.stack.Frame.{Frame}
 use Rattle.thread.specs.declared.stack.Frame.TheVariants.{Rest, Times, Endless}
-use Rattle.thread.specs.declared.stack.Opening.{Opening}
+use Rattle.thread.specs.declared.stack.Offered.{Offered}
 use Rattle.thread.specs.declared.stack.Stack.{Stack}
 use Rattle.thread.specs.Standing.{at_line, Outcome, State, Goes, ◌>>=◌, endless, given, run_block, run_stmt, times}
-use Rattle.thread.specs.Fitting.{FramesFit, HasPlace, IsOpening}
-use Rattle.thread.specs.Reaches.{event_reach, frame_reach, frames_reach, opening_reach, stmt_reach, stmts_reach}
+use Rattle.thread.specs.Fitting.{FramesFit, HasPlace, IsOffered}
+use Rattle.thread.specs.Reaches.{event_reach, frame_reach, frames_reach, offered_reach, stmt_reach, stmts_reach}
 use Rattle.thread.specs.Resolving.{Lists}
 use Rattle.thread.specs.Stacks.{Further, frame_on, frames_on, lists_of, reopened_on, others, place_block, sync_at, turn_on}
 use Rattle.thread.specs.Values.{test_value}
-use Rattle.thread.proofs.Beginning.{begun, opening_begins, opening_fits, others_all, reach_of}
+use Rattle.thread.proofs.Beginning.{begun, offered_begins, offered_fits, others_all, reach_of}
 use Rattle.thread.proofs.Going.{bind_assoc, bind_each}
 use Rattle.thread.proofs.Stacking.{at_is, at_there, frame_put, has_sync, leads_at, place_is, reach_pushed, sync_is, with_frame_on}
 
@@ -72,24 +72,24 @@ module _ (c : Code) (at : ℕ) (p : Place) (stmt : Stmt) (line : ℕ) (rest : Bl
           omega (arith, reach_pushed c newer new f put, less (frames_reach c new), reach_pushed c new old (Rest p.next) is, ap stmts_reach (at_is c p.next rest next), ap stmts_reach here)
 
 -- a sync
-module _ (c : Code) (at : ℕ) (p : Place) (line : ℕ) (names : Option (List ℕ)) (event : Event) (rest : Block) (linked : IsLinked c) (there : slice_get c.places.items at ≡ Some p) (runs : block_of p.block.value ≡ Runs (Syncs names event) line rest) (l : Lists) (o : Opening) (begins : o ≡ begun p.first l) where
+module _ (c : Code) (at : ℕ) (p : Place) (line : ℕ) (names : Option (List ℕ)) (event : Event) (rest : Block) (linked : IsLinked c) (there : slice_get c.places.items at ≡ Some p) (runs : block_of p.block.value ≡ Runs (Syncs names event) line rest) (l : Lists) (o : Offered) (begins : o ≡ begun p.first l) where
   plan : HasPlan c p.first line names event rest
   plan = (leads_at c at p (Syncs names event) line rest linked there runs).1
 
   pub sync_does : (below : Further) (s : State) → reopened_on c o below l (at_line line s) ≡ (run_block (place_block c at) s >>= below l)
   sync_does below s =
       ap (λ o. reopened_on c o below l (at_line line s)) begins
-      ∙ opening_begins c p.first below l (at_line line s)
+      ∙ offered_begins c p.first below l (at_line line s)
       ∙ ap (λ t. turn_on t (at_line line s) >>= below l) (sync_is c p.first line names event rest plan)
       ∙ ap (λ b. run_block b s >>= below l) (sym (place_is c at p there ∙ runs))
 
-  pub sync_falls : (r : ℕ) → opening_reach c o < stmts_reach (place_block c at) + r
+  pub sync_falls : (r : ℕ) → offered_reach c o < stmts_reach (place_block c at) + r
   sync_falls r =
-      omega (arith, ap (opening_reach c) begins, reach_of 0 0 (sync_at c p.first).event, ap (λ t. event_reach t.event) (sync_is c p.first line names event rest plan), ap stmts_reach (place_is c at p there ∙ runs))
+      omega (arith, ap (offered_reach c) begins, reach_of 0 0 (sync_at c p.first).event, ap (λ t. event_reach t.event) (sync_is c p.first line names event rest plan), ap stmts_reach (place_is c at p there ∙ runs))
 
-  pub sync_fits : (frames : List Frame) → FramesFit c frames l → IsOpening c l o × FramesFit c frames (others o l)
+  pub sync_fits : (frames : List Frame) → FramesFit c frames l → IsOffered c l o × FramesFit c frames (others o l)
   sync_fits frames h = (
-    subst (IsOpening c l) (sym begins) (opening_fits c p.first l (has_sync c p.first line names event rest plan)),
+    subst (IsOffered c l) (sym begins) (offered_fits c p.first l (has_sync c p.first line names event rest plan)),
     subst (FramesFit c frames) (sym (ap (λ o. others o l) begins ∙ others_all p.first l)) h,
   )
 

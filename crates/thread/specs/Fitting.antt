@@ -6,7 +6,7 @@ use Rattle.thread_code.specs.declared.Code.{Code}
 use Rattle.thread_code.specs.declared.Place.{Place}
 use Rattle.thread.specs.declared.stack.Frame.{Frame}
 use Rattle.thread.specs.declared.stack.Frame.TheVariants.{Rest, Times, Endless, Event}
-use Rattle.thread.specs.declared.stack.Opening.{Opening}
+use Rattle.thread.specs.declared.stack.Offered.{Offered as OfferedSync}
 use Rattle.thread.specs.declared.stack.Stack.{Stack}
 use Rattle.thread.specs.declared.stack.Now.{Now}
 use Rattle.thread.specs.declared.stack.Now.TheVariants.{At, Open, Back}
@@ -39,7 +39,7 @@ nacks_made (Performed body ∷ more) = nacks_made more
 nacks_made (Made name ∷ more) = 1 + nacks_made more
 
 -- a sync's own offers and nacks are what its stages so far made
-pub record IsOpening (c : Code) (l : Lists) (o : Opening) : Type 0 where
+pub record IsOffered (c : Code) (l : Lists) (o : OfferedSync) : Type 0 where
   pub sync : HasSync c o.plan
   pub stage : o.stage ≤ length (stages 0 0 (sync_at c o.plan).event)
   pub first_offer : o.offers ≤ length l.offers
@@ -51,20 +51,20 @@ abbrev pub FrameFits : Code → Frame → (Lists → Type 0) → Lists → Type 
 FrameFits c (Rest at) Below l = HasPlace c at × Below l
 FrameFits c (Times left plan) Below l = HasSync c plan × Below l
 FrameFits c (Endless plan) Below l = HasSync c plan × Below l
-FrameFits c (Event o) Below l = IsOpening c l o × Below (others o l)
+FrameFits c (Event o) Below l = IsOffered c l o × Below (others o l)
 
 abbrev pub FramesFit : Code → List Frame → Lists → Type 0
 FramesFit c frames = stacked (FrameFits c) (λ l. ⊤) frames
 
 abbrev pub NowFits : Code → Stack → Now → Type 0
 NowFits c stack (At at) = HasPlace c at × FramesFit c stack.frames.items (lists_of stack)
-NowFits c stack (Open o) = IsOpening c (lists_of stack) o × FramesFit c stack.frames.items (others o (lists_of stack))
+NowFits c stack (Open o) = IsOffered c (lists_of stack) o × FramesFit c stack.frames.items (others o (lists_of stack))
 NowFits c stack Back = FramesFit c stack.frames.items (lists_of stack)
 
 -- the event of an open sync is resolved
 abbrev pub StopFits : Code → Stack → Stop → Type 0
 StopFits c stack (Offering o) =
-    IsOpening c (lists_of stack) o
+    IsOffered c (lists_of stack) o
     × ((o.stage ≡ length (stages 0 0 (sync_at c o.plan).event))
     × FramesFit c stack.frames.items (others o (lists_of stack)))
 StopFits c stack Ended = ⊤

@@ -17,3 +17,4 @@ pub mod Printing
 pub mod Reading
 pub mod Counting
 pub mod Alike
+pub mod Ends

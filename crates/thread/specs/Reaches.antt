@@ -5,7 +5,7 @@ use Rattle.thread_code.specs.declared.Code.{Code}
 use Rattle.script_tree.specs.Lined.{Event, Sends, Receives, IsReady, IsNever, IsCancelled, IsJoined, Chooses, Wraps, Guards, Nacks, Events, NoMembers, Members, Stmt, Lets, Prints, Syncs, Branches, Loops, LoopsForever, Ends, Spawns, Block, Stops, Runs}
 use Rattle.thread.specs.declared.stack.Frame.{Frame}
 use Rattle.thread.specs.declared.stack.Frame.TheVariants as frame
-use Rattle.thread.specs.declared.stack.Opening.{Opening}
+use Rattle.thread.specs.declared.stack.Offered.{Offered as OfferedSync}
 use Rattle.thread.specs.declared.stack.Stack.{Stack}
 use Rattle.thread.specs.declared.stack.Now.{Now}
 use Rattle.thread.specs.declared.stack.Now.TheVariants.{At, Open, Back}
@@ -50,8 +50,8 @@ stages_reach (Offered event scopes ∷ more) = 1 + stages_reach more
 stages_reach (Performed body ∷ more) = 2 + stmts_reach body + stages_reach more
 stages_reach (Made name ∷ more) = 1 + stages_reach more
 
-abbrev pub opening_reach : Code → Opening → ℕ
-opening_reach c o = 1 + stages_reach (drop o.stage (stages 0 0 (sync_at c o.plan).event))
+abbrev pub offered_reach : Code → OfferedSync → ℕ
+offered_reach c o = 1 + stages_reach (drop o.stage (stages 0 0 (sync_at c o.plan).event))
 
 abbrev pub loop_reach : Code → ℕ → ℕ
 loop_reach c plan = 2 + event_reach (sync_at c plan).event
@@ -60,14 +60,14 @@ abbrev pub frame_reach : Code → Frame → ℕ → ℕ
 frame_reach c (frame.Rest at) below = 1 + stmts_reach (place_block c at) + below
 frame_reach c (frame.Times left plan) below = loop_reach c plan + below
 frame_reach c (frame.Endless plan) below = loop_reach c plan + below
-frame_reach c (frame.Event o) below = 1 + opening_reach c o
+frame_reach c (frame.Event o) below = 1 + offered_reach c o
 
 abbrev pub frames_reach : Code → List Frame → ℕ
 frames_reach c frames = stacked (frame_reach c) 1 frames
 
 abbrev pub now_reach : Code → Stack → Now → ℕ
 now_reach c stack (At at) = stmts_reach (place_block c at) + frames_reach c stack.frames.items
-now_reach c stack (Open o) = opening_reach c o
+now_reach c stack (Open o) = offered_reach c o
 now_reach c stack Back = frames_reach c stack.frames.items
 
 -- the step stops, or leads to where fewer steps are left

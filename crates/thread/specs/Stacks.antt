@@ -12,7 +12,7 @@ use Rattle.thread.specs.declared.Fault.{Fault}
 use Rattle.thread.specs.declared.memory.Memory.{Memory}
 use Rattle.thread.specs.declared.stack.Frame.{Frame}
 use Rattle.thread.specs.declared.stack.Frame.TheVariants.{Rest, Times, Endless, Event}
-use Rattle.thread.specs.declared.stack.Opening.{Opening}
+use Rattle.thread.specs.declared.stack.Offered.{Offered}
 use Rattle.thread.specs.declared.stack.Stack.{Stack}
 use Rattle.thread.specs.declared.stack.Now.{Now}
 use Rattle.thread.specs.declared.stack.Now.TheVariants.{At, Open, Back}
@@ -73,10 +73,10 @@ stacked on below [] = below
 stacked on below (f ∷ frames) = stacked on (on f below) frames
 
 -- the lists of a sync that has begun, and those of what it stands in
-abbrev pub own : Opening → Lists → Lists
+abbrev pub own : Offered → Lists → Lists
 own o l = record { offers = drop o.offers l.offers; nacks = drop o.nacks l.nacks }
 
-abbrev pub others : Opening → Lists → Lists
+abbrev pub others : Offered → Lists → Lists
 others o l = record { offers = take o.offers l.offers; nacks = take o.nacks l.nacks }
 
 abbrev pub Further : Type 0
@@ -86,13 +86,13 @@ Further = Lists → State → Outcome State
 abbrev pub offered : LoopBody → Listed → Outcome State
 offered sync r = synced sync.names (formed_as sync.event r.lists r.state) >>= run_block sync.rest
 
-abbrev pub opening_on : Code → Opening → Further → Further
-opening_on c o below l s =
+abbrev pub offered_on : Code → Offered → Further → Further
+offered_on c o below l s =
     run_stages (sync_at c o.plan).line (drop o.stage (stages 0 0 (sync_at c o.plan).event)) (own o l) s >>= offered (sync_at c o.plan) >>= below (others o l)
 
 -- which goes on at its line
-abbrev pub reopened_on : Code → Opening → Further → Further
-reopened_on c o below l s = opening_on c o below l (at_line (sync_at c o.plan).line s)
+abbrev pub reopened_on : Code → Offered → Further → Further
+reopened_on c o below l s = offered_on c o below l (at_line (sync_at c o.plan).line s)
 
 abbrev pub frame_on : Code → Frame → Further → Further
 frame_on c (Rest at) below l s = run_block (place_block c at) s >>= below l

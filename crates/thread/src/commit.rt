@@ -14,7 +14,7 @@ ghost use Rattle.thread.specs.declared.stack.Stop.TheVariants as stop;
 
 use crate::Fault;
 use crate::memory::Memory;
-use crate::stack::{Opening, Stack, plan_of};
+use crate::stack::{Offered, Stack, plan_of};
 use crate::value::message_of;
 use protocol_values::Message;
 use script_tree::{Event, Events, Exprs, Names};
@@ -97,22 +97,22 @@ fn leave(event: &Event, n: u8, message: Message, memory: &mut Memory) -> Result<
 #[inline(always)]
 pub(crate) fn commit(
     code: &Code,
-    opening: Opening,
+    offered: Offered,
     chosen: u8,
     message: Message,
     memory: &mut Memory,
     stack: &mut Stack,
 ) -> Result<u32, Fault>
     requires linked { IsLinked code.now }
-    requires fits { StopFits code.now stack.old (stop.Offering opening) }
-    requires there { chosen < length (own opening (lists_of stack.old)).offers }
-    ensures does { (rs : List Chosen) → step_on code.now stack.new (step_of result) (state_of memory.new rs) ≡ stop_on code.now stack.old (stop.Offering opening) (state_of memory.old ((chosen, message) ∷ rs)) }
+    requires fits { StopFits code.now stack.old (stop.Offering offered) }
+    requires there { chosen < length (own offered (lists_of stack.old)).offers }
+    ensures does { (rs : List Chosen) → step_on code.now stack.new (step_of result) (state_of memory.new rs) ≡ stop_on code.now stack.old (stop.Offering offered) (state_of memory.old ((chosen, message) ∷ rs)) }
     ensures fits { StepFits code.now stack.new (step_of result) }
     ensures spawned { memory.new.spawned ≡ memory.old.spawned }
 {
-    stack.offers.truncate(opening.offers);
-    stack.nacks.truncate(opening.nacks);
-    let plan = plan_of(code, opening.plan);
+    stack.offers.truncate(offered.offers);
+    stack.nacks.truncate(offered.nacks);
+    let plan = plan_of(code, offered.plan);
     match leave(&plan.event, chosen, message, memory) {
         Ok(Passage::Through(message)) => match memory.set_names(plan.names, message) {
             Ok(()) => Ok(plan.then),

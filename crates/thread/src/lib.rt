@@ -13,6 +13,7 @@ ghost use Rattle.thread.specs.contracts.machine.Machine as machine;
 mod branch;
 mod commit;
 mod counted;
+mod end;
 mod hashing;
 mod holding;
 pub mod log;
@@ -26,6 +27,7 @@ mod statement;
 mod value;
 
 pub use branch::Branch;
+pub use end::End;
 pub use machine::{Machine, Turn};
 
 /// Whatever a machine offers names only nacks and threads that the words have room for, if its results

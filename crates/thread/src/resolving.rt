@@ -13,7 +13,7 @@ ghost use Rattle.thread.specs.declared.stack.Now.TheVariants as now;
 
 use crate::Fault;
 use crate::memory::Memory;
-use crate::stack::{Frame, Now, Opening, Stack, Step, Stop, plan_of};
+use crate::stack::{Frame, Now, Offered, Stack, Step, Stop, plan_of};
 use crate::value::{message_of, value_of_name};
 use protocol_values::{Atom, Base, NackName, Offer};
 use script_tree::{Event, Exprs, Name};
@@ -96,34 +96,34 @@ fn base_of(event: &Event, variables: &[Option<Atom>]) -> Result<Base, Fault>
 #[inline(always)]
 pub(crate) fn resolve(
     code: &Code,
-    mut opening: Opening,
+    mut offered: Offered,
     memory: &mut Memory,
     stack: &mut Stack,
 ) -> Result<Step, AllocError>
     requires linked { IsLinked code.now }
-    requires fits { NowFits code.now stack.old (now.Open opening) }
-    ensures does { IfOk result (λ step. (rs : List Chosen) → step_on code.now stack.new step (state_of memory.new rs) ≡ now_on code.now stack.old (now.Open opening) (state_of memory.old rs)) }
-    ensures falls { IfOk result (Falls code.now (now_reach code.now stack.old (now.Open opening)) stack.new) }
+    requires fits { NowFits code.now stack.old (now.Open offered) }
+    ensures does { IfOk result (λ step. (rs : List Chosen) → step_on code.now stack.new step (state_of memory.new rs) ≡ now_on code.now stack.old (now.Open offered) (state_of memory.old rs)) }
+    ensures falls { IfOk result (Falls code.now (now_reach code.now stack.old (now.Open offered)) stack.new) }
     ensures fits { IfOk result (StepFits code.now stack.new) }
     ensures spawned { memory.new.spawned ≡ memory.old.spawned }
 {
-    let begun = plan_of(code, opening.plan);
+    let begun = plan_of(code, offered.plan);
     memory.line = begun.line;
     loop {
-        let plan = plan_of(code, opening.plan);
-        let Some(stage) = plan.stages.get(opening.stage) else {
-            return Ok(Step::To(Stop::Offering(opening)));
+        let plan = plan_of(code, offered.plan);
+        let Some(stage) = plan.stages.get(offered.stage) else {
+            return Ok(Step::To(Stop::Offering(offered)));
         };
-        let next = Opening {
-            stage: opening.stage + 1,
-            ..opening
+        let next = Offered {
+            stage: offered.stage + 1,
+            ..offered
         };
         match stage {
             Stage::Offer(event, scopes) => match base_of(event, &memory.variables) {
                 Ok(base) => {
                     let scopes = *scopes;
                     stack.offers.push(Offer { base, scopes })?;
-                    opening = next;
+                    offered = next;
                 }
                 Err(fault) => return Ok(Step::To(Stop::Faulted(fault))),
             },

@@ -12,7 +12,7 @@ ghost use Rattle.thread.specs.declared.stack.Now.TheVariants as now;
 ghost use Rattle.thread.specs.declared.stack.Step.TheVariants as steps;
 
 use crate::memory::Memory;
-use crate::stack::{Frame, Now, Opening, Stack, Step, Stop, place_at};
+use crate::stack::{Frame, Now, Offered, Stack, Step, Stop, place_at};
 use crate::value::{holds, value_of};
 use script_tree::{Block, Stmt};
 use std::alloc::AllocError;
@@ -20,10 +20,10 @@ use thread_code::Code;
 
 /// A sync of this plan that begins now.
 #[inline(always)]
-fn opening(stack: &Stack, plan: u32) -> Opening
+fn offered(stack: &Stack, plan: u32) -> Offered
     ensures { result ≡ record { plan = plan; stage = 0; offers = length stack.now.offers.items; nacks = length stack.now.nacks.items } }
 {
-    Opening {
+    Offered {
         plan,
         stage: 0,
         offers: stack.offers.len(),
@@ -75,7 +75,7 @@ pub(crate) fn run(
         }
         Stmt::Sync(_, _) => {
             memory.line = *line;
-            Ok(Step::On(Now::Open(opening(stack, place.first))))
+            Ok(Step::On(Now::Open(offered(stack, place.first))))
         }
         _ => run_other(code, at, memory, stack),
     }
@@ -117,7 +117,7 @@ fn run_other(
             }
             Err(fault) => Ok(Step::To(Stop::Faulted(fault))),
         },
-        Stmt::Sync(_, _) => Ok(Step::On(Now::Open(opening(stack, place.first)))),
+        Stmt::Sync(_, _) => Ok(Step::On(Now::Open(offered(stack, place.first)))),
         Stmt::If(test, _, _) => match holds(test, &memory.variables) {
             Ok(true) => {
                 stack.frames.push(Frame::Rest(place.next))?;
@@ -162,13 +162,13 @@ pub(crate) fn back(code: &Code, memory: &Memory, stack: &mut Stack) -> Step
             }
             Some(left) => {
                 stack.frames[last] = Frame::Times(left, plan);
-                Step::On(Now::Open(opening(stack, plan)))
+                Step::On(Now::Open(offered(stack, plan)))
             }
         },
-        Frame::Endless(plan) => Step::On(Now::Open(opening(stack, plan))),
-        Frame::Event(opening) => {
+        Frame::Endless(plan) => Step::On(Now::Open(offered(stack, plan))),
+        Frame::Event(offered) => {
             stack.frames.truncate(last);
-            Step::On(Now::Open(opening))
+            Step::On(Now::Open(offered))
         }
     }
 }

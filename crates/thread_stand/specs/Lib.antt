@@ -5,6 +5,5 @@ pub mod Stands
 pub mod Variables
 pub mod Walks
 pub mod WalkEnds
-pub mod Ends
 pub mod Strands
 pub mod Fired

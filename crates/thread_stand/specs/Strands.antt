@@ -14,8 +14,8 @@ use Rattle.protocol_values.specs.declared.Atom.{Atom}
 use Rattle.protocol_values.specs.declared.Offer.{Offer}
 use Rattle.protocol_values.specs.declared.Row.{Row}
 use Rattle.protocol_values.specs.Scopes.{has_scope}
-use Rattle.thread_stand.specs.declared.end.End.{End}
-use Rattle.thread_stand.specs.declared.end.End.TheVariants as end
+use Rattle.thread.specs.declared.end.End.{End}
+use Rattle.thread.specs.declared.end.End.TheVariants as end
 use Rattle.thread_stand.specs.declared.strand.Known.{Known}
 use Rattle.thread_stand.specs.declared.strand.Strand.{Strand}
 

@@ -2,7 +2,6 @@
 //! anew from its tree, with its variables and what went wrong.
 #![tactic(auto)]
 
-mod end;
 mod fired;
 mod laws;
 mod stand;
@@ -12,7 +11,6 @@ mod value;
 mod walk;
 mod walking;
 
-pub use crate::end::End;
 pub use crate::fired::Fired;
 pub use crate::laws::stand_laws;
 pub use crate::stand::{Stand, stand_of, trouble_of};

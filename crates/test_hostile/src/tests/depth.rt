@@ -1,6 +1,6 @@
 //! The deepest scripts, on little stack.
 
-use thread_stand::End;
+use thread::End;
 use protocol_values::Atom;
 use runtime_run::{OpenGate, RunFault, run};
 use script::{ScriptFault, parse};

@@ -4,7 +4,7 @@ ghost use Rattle.std.specs.Prelude.{◌≤◌};
 
 use super::{INDEPENDENT, ONE_SEND, check_same};
 use journal::{Record, complete, received_from};
-use thread_stand::End;
+use thread::End;
 use journal_replay::ReplayFault;
 use protocol_ledger::Ledger;
 use protocol::{World, play};

@@ -3,7 +3,7 @@
 ghost use Rattle.std.specs.Prelude.{◌≤◌};
 
 use super::{ONE_SEND, SERVER, check_same};
-use thread_stand::End;
+use thread::End;
 use journal_replay::{ReplayFault, State, is_placed, replay, settle};
 use protocol_values::{Atom, Cause, Commit, Message, NackName, Row};
 use script::parse;

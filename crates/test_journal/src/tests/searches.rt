@@ -4,7 +4,7 @@ ghost use Rattle.std.specs.Prelude.{◌≤◌};
 ghost use Rattle.protocol_values.specs.Commits.{most_rows};
 
 use super::check_same;
-use thread_stand::End;
+use thread::End;
 use journal_replay::replay;
 use outcomes::{Asked, Extent, Outcomes, Told, Unwatched, find_outcomes};
 use protocol_values::{Atom, Commit, Message, Row};

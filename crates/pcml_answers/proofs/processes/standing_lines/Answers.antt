@@ -6,7 +6,7 @@ use Rattle.std.specs.String.{string_bytes}
 use Rattle.std.proofs.lemmas.Option.{slice_get-get_or, slice_get-map, slice_get_read}
 use Rattle.protocol_values.specs.declared.Atom.{Atom}
 use Rattle.script.specs.Scripts.{script_of}
-use Rattle.thread_stand.specs.declared.end.End.TheVariants.{Ended}
+use Rattle.thread.specs.declared.end.End.TheVariants.{Ended}
 use Rattle.pcml_answers.specs.Standings.{IsStandingOf}
 use Rattle.pcml_answers.proofs.Lines.{one_line}
 use Rattle.journal_text.specs.Names.{named}

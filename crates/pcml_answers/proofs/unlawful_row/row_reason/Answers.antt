@@ -1,6 +1,6 @@
 use Rattle.std.proofs.Common.{ℕ, sym, ◌∙◌, subst}
 use Rattle.journal_replay.specs.Replays.{TellsEnd, TellsOpen}
-use Rattle.thread_stand.specs.declared.end.End.{End}
+use Rattle.thread.specs.declared.end.End.{End}
 use Rattle.pcml_answers.proofs.Rows.{goes-on, open-row, other-row, stopped-row}
 use Rattle.pcml_answers.proofs.unlawful_row.row_reason.Goals as goal
 

@@ -7,7 +7,7 @@ use Rattle.std.proofs.lemmas.List.{length-map}
 use Rattle.std.proofs.lemmas.Option.{slice_get-get_or, slice_get-map, slice_get_read}
 use Rattle.protocol_values.specs.declared.Atom.{Atom}
 use Rattle.script.specs.Scripts.{script_of}
-use Rattle.thread_stand.specs.declared.end.End.TheVariants.{Ended}
+use Rattle.thread.specs.declared.end.End.TheVariants.{Ended}
 use Rattle.journal_text.specs.Names.{named}
 use Rattle.outcomes.specs.Asking.{marked}
 use Rattle.outcomes.specs.Outcomes.{ends_in, outputs_in}

@@ -4,7 +4,7 @@ use Rattle.script.specs.Lines.{trees_of_script}
 use Rattle.journal_replay.specs.Lines.{trees_in}
 use Rattle.journal_replay.specs.Replays.{StandsAfter}
 use Rattle.journal_replay.specs.declared.state.State.{State}
-use Rattle.thread_stand.specs.declared.end.End.{End}
+use Rattle.thread.specs.declared.end.End.{End}
 use Rattle.pcml_tool.specs.Run.{TellsRunOf}
 use Rattle.script.specs.Scripts.{script_of}
 use Rattle.journal_text.proofs.Lining.{run_has_lines}

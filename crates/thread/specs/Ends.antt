@@ -1,8 +1,8 @@
 -- How a process stands, in words.
 use Rattle.std.specs.Prelude.{ℕ, List, codes, Bool, true, false}
 use Rattle.thread.specs.declared.Fault.TheVariants.{Unset, Kind, Range, Shape}
-use Rattle.thread_stand.specs.declared.end.End.{End}
-use Rattle.thread_stand.specs.declared.end.End.TheVariants.{Ended, Waiting, Spent, Faulted, Unstarted}
+use Rattle.thread.specs.declared.end.End.{End}
+use Rattle.thread.specs.declared.end.End.TheVariants.{Ended, Waiting, Spent, Faulted, Unstarted}
 
 abbrev pub is_ended : End → Bool
 is_ended Ended = true

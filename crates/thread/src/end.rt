@@ -1,9 +1,9 @@
 //! How a thread ends.
 
 ghost use Rattle.std.specs.Prelude.{◌≡◌};
-ghost use Rattle.thread_stand.specs.Ends.{end_text, is_ended, is_spent, is_waiting};
+ghost use Rattle.thread.specs.Ends.{end_text, is_ended, is_spent, is_waiting};
 
-use thread::Fault;
+use crate::Fault;
 
 /// How a thread stands where a run leads.
 #[derive(Clone, Copy, Debug, PartialEq, Eq)]
