@@ -6,7 +6,7 @@ use Rattle.script_tree.specs.Processes.{Proc}
 use Rattle.thread.specs.After.{Chosen}
 use Rattle.protocol_values.specs.declared.Commit.{Commit}
 use Rattle.journal_replay.specs.declared.state.State.{State}
-use Rattle.thread_stand.specs.declared.strand.Strand.{Strand}
+use Rattle.thread_strand.specs.declared.strand.Strand.{Strand}
 use Rattle.journal_replay.specs.Replays.{StandsAfter}
 use Rattle.journal_replay.specs.Runs.{Config, CountsOf, IsGreatest, IsRun, Starts, config_of}
 use Rattle.journal_replay.specs.Standing.{FiresOf, KnowsNack, StandsIn, StrandStands}

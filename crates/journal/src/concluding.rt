@@ -14,14 +14,13 @@ ghost use Rattle.journal.specs.Concluding.{AreGone, AreStanding, EachKnownBy, Ru
 ghost use Rattle.journal.specs.Records.{Completes, CompletesOrdered, CompletesRun, IsOrdering};
 
 use crate::record::{Record, record_of};
-use thread_stand::Known;
 use journal_replay::{gather, retrace};
 use protocol_ledger::{Ledger, Life, NackState, Opening};
 use protocol_values::Commit;
 use script_tree::Proc;
 use std::alloc::{AllocError, Global};
 use thread::Machine;
-use thread_stand::Fired;
+use thread_strand::{Fired, Known};
 
 /// How many nacks a thread can have.
 const NACKS: usize = 64;

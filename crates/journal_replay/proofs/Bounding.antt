@@ -14,10 +14,10 @@ use Rattle.protocol_values.specs.declared.Message.TheVariants.{Empty}
 use Rattle.protocol_values.specs.declared.Base.{Base}
 use Rattle.protocol_values.specs.declared.Row.{Row}
 use Rattle.protocol_values.specs.Scopes.{has_scope}
-use Rattle.thread_stand.specs.declared.strand.Strand.{Strand}
+use Rattle.thread_strand.specs.declared.strand.Strand.{Strand}
 use Rattle.journal_replay.specs.Runs.{message_by}
 use Rattle.journal_replay.specs.Standing.{CauseIsAt, Commits, Finds, MayBe, MayFollow, NoneStarts, OneGrows, OneStarts, SomeStart, Start, Takes, ended_in, last_in, last_of}
-use Rattle.thread_stand.specs.Strands.{Grows, end_stamp, is_over}
+use Rattle.thread_strand.specs.Strands.{Grows, end_stamp, is_over}
 use Rattle.journal_replay.specs.Searching.{Bounded, HasRoom, total}
 use Rattle.journal_replay.proofs.Finding.{if-some}
 use Rattle.journal_replay.proofs.Firing.{decide}

@@ -15,12 +15,12 @@ use Rattle.protocol_values.specs.declared.Message.TheVariants.{Empty}
 use Rattle.protocol_values.specs.declared.Offer.{Offer}
 use Rattle.protocol_values.specs.declared.Row.{Row}
 use Rattle.journal_replay.specs.declared.openings.Openings.{Openings}
-use Rattle.thread_stand.specs.declared.strand.Strand.{Strand}
+use Rattle.thread_strand.specs.declared.strand.Strand.{Strand}
 use Rattle.protocol_values.specs.declared.Side.{Side}
 use Rattle.protocol_values.specs.declared.Side.TheVariants.{Sends, Receives}
 use Rattle.journal_replay.specs.Searching.{Adds, Covers, FindsOther, HasChannels, HasUntried, IsListed, Keeps, KeepsBrought, KeepsSide, NoneBrought, NoneMay, NoneMayWith, Opens, Places, TakesOther, base_on, pair_of}
 use Rattle.journal_replay.specs.Standing.{Finds, MayBe, MayFollow, base_for, last_in}
-use Rattle.thread_stand.specs.Strands.{next_offer, offers_at}
+use Rattle.thread_strand.specs.Strands.{next_offer, offers_at}
 use Rattle.journal_replay.proofs.Listing.{found-of}
 use Rattle.journal_replay.proofs.Lists.{contains-before, contains-last}
 

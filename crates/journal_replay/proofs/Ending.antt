@@ -10,11 +10,11 @@ use Rattle.thread.specs.Machines.{Thread, Phase, Ready, Open, Over, Stuck, Broke
 use Rattle.protocol_values.specs.declared.Commit.{Commit}
 use Rattle.thread.specs.declared.end.End.TheVariants.{Unstarted}
 use Rattle.journal_replay.specs.declared.state.State.{State}
-use Rattle.thread_stand.specs.declared.strand.Strand.{Strand}
+use Rattle.thread_strand.specs.declared.strand.Strand.{Strand}
 use Rattle.journal_replay.specs.Replays.{OpensAs, StandsAfter}
 use Rattle.journal_replay.specs.Runs.{Config, EndsAs, Starts, config_of, end_of}
 use Rattle.journal_replay.specs.Standing.{StrandStands}
-use Rattle.thread_stand.specs.Strands.{end_after, end_at, nacks_at, offers_at, printed_at}
+use Rattle.thread_strand.specs.Strands.{end_after, end_at, nacks_at, offers_at, printed_at}
 use Rattle.journal_replay.proofs.Opening.{moved, opens-as}
 
 pub end-in : (rows n : ℕ) (m : Thread) (p : Phase) (turn : Turn) → IsAfterAt m p → HasStopped p → Tells turn p →

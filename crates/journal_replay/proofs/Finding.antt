@@ -20,11 +20,11 @@ use Rattle.protocol_values.specs.declared.NackName.{NackName}
 use Rattle.protocol_values.specs.declared.Offer.{Offer}
 use Rattle.protocol_values.specs.declared.Row.{Row}
 use Rattle.protocol_values.specs.Commits.{stamp_of}
-use Rattle.thread_stand.specs.declared.strand.Strand.{Strand}
+use Rattle.thread_strand.specs.declared.strand.Strand.{Strand}
 use Rattle.journal_replay.specs.Runs.{Config, FiredAt, IsFiredAt, CanTake, MayTake, IsLegal, IsCaused, Fires, CausedBy, CountsFor, CountsOf, HasEnded, IsGreatest, Follows, Starts, config_of}
 use Rattle.journal_replay.specs.Starting.{IsOver}
 use Rattle.journal_replay.specs.Standing.{KnowsNack, FiresOf, StrandStands, Stands, last_of, last_in, ended_in, fired_in, Finds, base_for, CauseIsAt, MayFollow}
-use Rattle.thread_stand.specs.Strands.{next_offer, end_stamp, is_over}
+use Rattle.thread_strand.specs.Strands.{next_offer, end_stamp, is_over}
 use Rattle.journal_replay.proofs.Greatest.{greatest-either, greatest-one, greatest-same}
 use Rattle.journal_replay.proofs.Opening.{moved, open-at, offers-are}
 

@@ -22,11 +22,11 @@ use Rattle.protocol_values.specs.declared.Message.TheVariants.{Empty}
 use Rattle.protocol_values.specs.declared.Row.{Row}
 use Rattle.protocol_values.specs.declared.RowResult.{RowResult}
 use Rattle.protocol_values.specs.Commits.{gives, stamp_of}
-use Rattle.thread_stand.specs.declared.strand.Known.{Known}
-use Rattle.thread_stand.specs.declared.strand.Strand.{Strand}
+use Rattle.thread_strand.specs.declared.strand.Known.{Known}
+use Rattle.thread_strand.specs.declared.strand.Strand.{Strand}
 use Rattle.journal_replay.specs.declared.threads.Threads.{Threads}
 use Rattle.journal_replay.specs.Gathering.{AreGathered, AreHad, AreKnown, CanGive, GivesAll, GivesOne, GivesRow, HasGone, IsEarly, IsHad, IsKnown, IsOpenFor, KnowsLast, OneGoesOn, waits_if, waits_in}
-use Rattle.thread_stand.specs.Strands.{Gathers, GoesOn, HasBegun}
+use Rattle.thread_strand.specs.Strands.{Gathers, GoesOn, HasBegun}
 use Rattle.journal_replay.specs.Reaching.{AreAfter}
 use Rattle.journal_replay.specs.Runs.{Config, CanTake, CountsOf, HasThread, IsCaused, IsGreatest, IsLegal, IsRun, Starts, applied, config_from, config_of, message_by, no_results, with_result}
 use Rattle.journal_replay.specs.Searching.{Bounded, total}

@@ -12,10 +12,10 @@ use Rattle.protocol_values.specs.declared.Commit.{Commit}
 use Rattle.protocol_values.specs.declared.Offer.{Offer}
 use Rattle.protocol_values.specs.Scopes.{has_scope}
 use Rattle.protocol_values.specs.Commits.{stamp_of}
-use Rattle.thread_stand.specs.declared.strand.Strand.{Strand}
+use Rattle.thread_strand.specs.declared.strand.Strand.{Strand}
 use Rattle.journal_replay.specs.Runs.{Config, CountsOf, FiredAt, HasRow, HasThread, IsGreatest, Starts}
 use Rattle.journal_replay.specs.Standing.{FiresOf, KnowsNack, MachineStands, StrandStands}
-use Rattle.thread_stand.specs.Strands.{Grows}
+use Rattle.thread_strand.specs.Strands.{Grows}
 use Rattle.journal_replay.proofs.Firing.{FiredNow, AllPass, decide, fired-kept, fired-cases, fired-now}
 use Rattle.journal_replay.proofs.Greatest.{more, more-cases, greatest-other, greatest-this, greatest-same}
 use Rattle.journal_replay.proofs.Opening.{OpenAt, open-at, offering-one}

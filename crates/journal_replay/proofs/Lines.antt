@@ -13,14 +13,14 @@ use Rattle.protocol_values.specs.declared.Row.{Row}
 use Rattle.script_tree.specs.declared.tree.Block.{Block as Tree}
 use Rattle.protocol_values.specs.declared.Commit.TheVariants.{Pair, Alone}
 use Rattle.journal_replay.specs.Gathering.{GivesAll, GivesRow, OneGoesOn}
-use Rattle.thread_stand.specs.Strands.{Gathers, HasBegun, line_at}
+use Rattle.thread_strand.specs.Strands.{Gathers, HasBegun, line_at}
 use Rattle.journal_replay.specs.Lines.{RunTheirs, StandsAtLine, trees_in, trees_of}
 use Rattle.journal_replay.specs.Replays.{StandsAfter}
 use Rattle.journal_replay.specs.Runs.{Config, Starts, config_of}
 use Rattle.journal_replay.specs.Standing.{Commits, MachineStands, NoneStarts, OneGrows, OneStarts, SomeStart, Start, StrandStands, Takes}
 use Rattle.journal_replay.specs.declared.state.State.{State}
-use Rattle.thread_stand.specs.declared.strand.Known.{Known}
-use Rattle.thread_stand.specs.declared.strand.Strand.{Strand}
+use Rattle.thread_strand.specs.declared.strand.Known.{Known}
+use Rattle.thread_strand.specs.declared.strand.Strand.{Strand}
 use Rattle.journal_replay.proofs.Lists.{slice_get-more}
 use Rattle.thread.specs.After.{Chosen}
 

@@ -4,9 +4,9 @@ use Rattle.thread.specs.Machines.{offers_in}
 use Rattle.protocol_values.specs.declared.Base.{Base}
 use Rattle.protocol_values.specs.declared.Offer.{Offer}
 use Rattle.protocol_values.specs.declared.Row.{Row}
-use Rattle.thread_stand.specs.declared.strand.Strand.{Strand}
+use Rattle.thread_strand.specs.declared.strand.Strand.{Strand}
 use Rattle.journal_replay.specs.Standing.{Finds}
-use Rattle.thread_stand.specs.Strands.{next_offer}
+use Rattle.thread_strand.specs.Strands.{next_offer}
 use Rattle.journal_replay.proofs.Finding.{offer-tests}
 
 -- what is found of a thread

@@ -6,7 +6,7 @@ use Rattle.script_tree.specs.Processes.{Proc}
 use Rattle.protocol_values.specs.declared.Commit.{Commit}
 use Rattle.protocol_values.specs.declared.NackName.{NackName}
 use Rattle.journal_replay.specs.declared.state.State.{State}
-use Rattle.thread_stand.specs.declared.strand.Strand.{Strand}
+use Rattle.thread_strand.specs.declared.strand.Strand.{Strand}
 use Rattle.journal_replay.specs.Replays.{StandsAfter, TellsEnded, TellsFired, ended_by, fired_by}
 use Rattle.journal_replay.specs.Runs.{config_of}
 use Rattle.journal_replay.specs.Standing.{KnowsNack}

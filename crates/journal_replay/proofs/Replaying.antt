@@ -6,7 +6,7 @@ use Rattle.std.proofs.lemmas.Option.{none-some, slice_get-get_or, slice_get_with
 use Rattle.script_tree.specs.Processes.{Proc}
 use Rattle.protocol_values.specs.declared.Commit.{Commit}
 use Rattle.journal_replay.specs.declared.state.State.{State}
-use Rattle.thread_stand.specs.declared.strand.Strand.{Strand}
+use Rattle.thread_strand.specs.declared.strand.Strand.{Strand}
 use Rattle.journal_replay.specs.declared.threads.Threads.{Threads}
 use Rattle.journal_replay.specs.Reaching.{AreAfter, IsReached}
 use Rattle.journal_replay.specs.Replays.{TellsEnabled}

@@ -16,11 +16,11 @@ use Rattle.protocol_values.specs.declared.Commit.TheVariants.{Pair, Alone}
 use Rattle.protocol_values.specs.declared.Message.TheVariants.{Empty}
 use Rattle.protocol_values.specs.declared.Row.{Row}
 use Rattle.protocol_values.specs.Commits.{stamp_of}
-use Rattle.thread_stand.specs.declared.strand.Strand.{Strand}
+use Rattle.thread_strand.specs.declared.strand.Strand.{Strand}
 use Rattle.journal_replay.specs.Runs.{Config, applied, with_result, message_by, IsCaused, IsLegal, HasRow, HasThread, CountsFor, CountsOf, IsGreatest, Follows, Starts, config_of, config_from, no_results}
 use Rattle.journal_replay.specs.Starting.{AtOnce, Spawned, CountsForStart, InRow, InStart, HasSpawned, SpawnsAt, spawned_in}
 use Rattle.journal_replay.specs.Standing.{AllStarted, AreMade, KnowsNack, MachineStands, StrandStands, Stands, StandsIn, OneGrows, OneStarts, SomeStart, NoneStarts, Start, Commits, Takes, Wakes, stamp_of_start, start_stamp}
-use Rattle.thread_stand.specs.Strands.{Begins, Grows, has_run, stamp_from}
+use Rattle.thread_strand.specs.Strands.{Begins, Grows, has_run, stamp_from}
 use Rattle.journal_replay.proofs.Finding.{if-some, strand-at}
 use Rattle.journal_replay.proofs.Greatest.{more, more-cases, greatest-none, greatest-within}
 use Rattle.journal_replay.proofs.Lists.{nothing-there, slice_get-more}

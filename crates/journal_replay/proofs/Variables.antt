@@ -19,11 +19,11 @@ use Rattle.journal_replay.specs.Replays.{StandsAfter}
 use Rattle.journal_replay.specs.Runs.{Config, EndsAs, Starts, config_of, end_of}
 use Rattle.journal_replay.specs.Standing.{MachineStands, StrandStands}
 use Rattle.journal_replay.specs.Variables.{StandsWith}
-use Rattle.thread_stand.specs.Strands.{variables_at}
+use Rattle.thread_strand.specs.Strands.{variables_at}
 use Rattle.thread.specs.declared.end.End.{End}
 use Rattle.thread.specs.declared.end.End.TheVariants.{Ended, Faulted, Unstarted, Waiting}
 use Rattle.journal_replay.specs.declared.state.State.{State}
-use Rattle.thread_stand.specs.declared.strand.Strand.{Strand}
+use Rattle.thread_strand.specs.declared.strand.Strand.{Strand}
 
 stopped_variables : (m : Thread) (p : Phase) → HasStopped p → lined.variables_at m p ≡ variables_after m.body m.variables m.thread m.results
 stopped_variables m Ready h = absurd h

@@ -8,11 +8,11 @@ use Rattle.thread.specs.After.{Chosen}
 use Rattle.protocol_values.specs.declared.Commit.{Commit}
 use Rattle.protocol_values.specs.declared.Commit.TheVariants.{Pair, Alone}
 use Rattle.protocol_values.specs.declared.Message.TheVariants.{Empty}
-use Rattle.thread_stand.specs.declared.strand.Strand.{Strand}
+use Rattle.thread_strand.specs.declared.strand.Strand.{Strand}
 use Rattle.journal_replay.specs.declared.threads.Threads.{Threads}
 use Rattle.journal_replay.specs.Runs.{message_by}
 use Rattle.journal_replay.specs.Standing.{IsOrdered, OneGrows, OneStarts, Takes, SomeStart, NoneStarts, Start, TriesStart, Wakes, first_with, stamp_of_start, start_stamp}
-use Rattle.thread_stand.specs.Strands.{stamp_from}
+use Rattle.thread_strand.specs.Strands.{stamp_from}
 use Rattle.journal_replay.proofs.Standing.{BeginsEach, at-other, at-same, takes-count, started-now, started-other, started-same}
 
 -- MASKS

@@ -9,9 +9,9 @@ use Rattle.protocol_values.specs.declared.Commit.TheVariants.{Pair, Alone}
 use Rattle.protocol_values.specs.declared.Row.{Row}
 use Rattle.protocol_values.specs.declared.RowResult.{RowResult}
 use Rattle.protocol_values.specs.Commits.{gives, most_rows}
-use Rattle.thread_stand.specs.declared.strand.Known.{Known}
-use Rattle.thread_stand.specs.declared.strand.Strand.{Strand}
-use Rattle.thread_stand.specs.Strands.{Gathers, GoesOn}
+use Rattle.thread_strand.specs.declared.strand.Known.{Known}
+use Rattle.thread_strand.specs.declared.strand.Strand.{Strand}
+use Rattle.thread_strand.specs.Strands.{Gathers, GoesOn}
 use Rattle.journal_replay.specs.declared.threads.Threads.{Threads}
 use Rattle.journal_replay.specs.Runs.{CountsOf, HasThread, IsGreatest, Starts, config_of}
 use Rattle.journal_replay.specs.Standing.{KnowsNack, MachineStands}

@@ -8,8 +8,8 @@ use Rattle.protocol_values.specs.declared.Commit.{Commit}
 use Rattle.journal_replay.specs.Replays.{StandsAfter}
 use Rattle.journal_replay.specs.Runs.{Config, Starts, config_of}
 use Rattle.journal_replay.specs.declared.state.State.{State}
-use Rattle.thread_stand.specs.declared.strand.Known.{Known}
-use Rattle.thread_stand.specs.declared.strand.Strand.{Strand}
+use Rattle.thread_strand.specs.declared.strand.Known.{Known}
+use Rattle.thread_strand.specs.declared.strand.Strand.{Strand}
 
 -- the trees that threads run, with their lines
 abbrev pub trees_of : List Strand → List Tree

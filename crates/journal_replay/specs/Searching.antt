@@ -12,7 +12,7 @@ use Rattle.protocol_values.specs.declared.Message.{Message}
 use Rattle.protocol_values.specs.declared.NackName.{NackName}
 use Rattle.protocol_values.specs.declared.Row.{Row}
 use Rattle.journal_replay.specs.declared.openings.Openings.{Openings}
-use Rattle.thread_stand.specs.declared.strand.Strand.{Strand}
+use Rattle.thread_strand.specs.declared.strand.Strand.{Strand}
 use Rattle.protocol_values.specs.declared.Side.{Side}
 use Rattle.protocol_values.specs.declared.Side.TheVariants.{Sends, Receives}
 use Rattle.journal_replay.specs.Standing.{CauseIsAt, Finds, MayFollow, base_for, ended_in, last_in, fired_in}

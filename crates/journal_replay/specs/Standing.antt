@@ -16,8 +16,8 @@ use Rattle.protocol_values.specs.declared.Offer.{Offer}
 use Rattle.protocol_values.specs.declared.Row.{Row}
 use Rattle.protocol_values.specs.declared.RowResult.{RowResult}
 use Rattle.protocol_values.specs.Commits.{gives, stamp_of}
-use Rattle.thread_stand.specs.declared.strand.Strand.{Strand}
-use Rattle.thread_stand.specs.Strands.{Grows, end_stamp, next_offer, stamp_from}
+use Rattle.thread_strand.specs.declared.strand.Strand.{Strand}
+use Rattle.thread_strand.specs.Strands.{Grows, end_stamp, next_offer, stamp_from}
 use Rattle.journal_replay.specs.declared.threads.Threads.{Threads}
 use Rattle.journal_replay.specs.Runs.{Config, CountsOf, FiredAt, HasThread, HasRow, IsGreatest, Starts, config_of}
 

@@ -2,7 +2,7 @@
 
 ghost use Rattle.std.specs.Prelude.{◌≡◌, ◌≤◌, false, IfOk, OnOk, List, MatchOption, length};
 ghost use Rattle.protocol_values.specs.declared.Commit.{Commit};
-ghost use Rattle.thread_stand.specs.declared.strand.Strand.{Strand};
+ghost use Rattle.thread_strand.specs.declared.strand.Strand.{Strand};
 ghost use Rattle.journal_replay.specs.Searching.{Adds, Covers, FindsOther, HasChannels, HasRoom, Lists, NoneMay, NoneMayWith, Opens};
 ghost use Rattle.journal_replay.specs.Standing.{MayBe, Takes};
 

@@ -9,12 +9,12 @@ use Rattle.journal_text.specs.Names.{Naming}
 use Rattle.journal_text.specs.Texts.{atom_text}
 use Rattle.thread.specs.declared.Fault.{Fault}
 use Rattle.thread.specs.declared.Fault.TheVariants.{Unset as UnsetFault, Kind as KindFault, Range, Shape}
-use Rattle.thread_stand.specs.declared.trouble.Kind.{Kind}
-use Rattle.thread_stand.specs.declared.trouble.Kind.TheVariants as kind
-use Rattle.thread_stand.specs.declared.trouble.Trouble.{Trouble}
-use Rattle.thread_stand.specs.declared.trouble.Trouble.TheVariants.{Unset, NotOfKind, Below, Above, Nacks, Count}
-use Rattle.thread_stand.specs.declared.stand.Stand.{Stand}
-use Rattle.thread_stand.specs.declared.stand.Stand.TheVariants.{Fails}
+use Rattle.pcml_why_sites.specs.declared.trouble.Kind.{Kind}
+use Rattle.pcml_why_sites.specs.declared.trouble.Kind.TheVariants as kind
+use Rattle.pcml_why_sites.specs.declared.trouble.Trouble.{Trouble}
+use Rattle.pcml_why_sites.specs.declared.trouble.Trouble.TheVariants.{Unset, NotOfKind, Below, Above, Nacks, Count}
+use Rattle.pcml_why_sites.specs.declared.stand.Stand.{Stand}
+use Rattle.pcml_why_sites.specs.declared.stand.Stand.TheVariants.{Fails}
 
 -- VARIABLES
 

@@ -2,7 +2,7 @@
 use Rattle.std.specs.Prelude.{◌≡◌, ◌==◌, ℕ, zero, suc, Bool, true, false, if◌then◌else◌, List, [], ◌∷◌, ◌++◌, length, codes, Option, Some, None, slice_get}
 use Rattle.std.specs.Fmt.{decimal}
 use Rattle.std.specs.List.{flat_map}
-use Rattle.thread_stand.specs.declared.stand.Stand.{Stand}
+use Rattle.pcml_why_sites.specs.declared.stand.Stand.{Stand}
 use Rattle.script_tree.specs.Processes.{Proc}
 use Rattle.configurations.specs.Serving.{nobody_serves}
 use Rattle.protocol_values.specs.declared.Base.{Base}

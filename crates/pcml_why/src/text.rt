@@ -14,16 +14,15 @@ ghost use Rattle.script.specs.Appending.{Adds};
 
 use crate::served::{Answer, answers_of, is_by_nobody};
 use crate::variables::Namer;
-use thread::End;
 use journal_replay::State;
 use journal_text::{push_channel, push_message, push_nack, push_thread};
-use pcml_why_sites::{Site, WaitGraph, is_open, others, process_texts, sites_at};
+use pcml_why_sites::{Site, Stand, WaitGraph, is_open, others, process_texts, sites_at};
 use protocol_values::{Base, Commit, NackName, Offer, Side};
 use script::Script;
 use script_token::{Placed, scan};
 use script_tree::Proc;
 use std::alloc::{AllocError, Global};
-use thread_stand::Stand;
+use thread::End;
 
 /// What is told of a run: the names, what may come next, and where its processes stand.
 #[derive(Drop)]

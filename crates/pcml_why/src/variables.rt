@@ -8,12 +8,12 @@ ghost use Rattle.journal_text.specs.Names.{named};
 ghost use Rattle.script.specs.Appending.{Adds};
 
 use journal_text::push_atom;
+use pcml_why_sites::{Kind, Stand, Trouble};
 use protocol_values::Atom;
 use script::Script;
 use script_tree::{Name, Proc};
 use std::alloc::AllocError;
 use thread::Fault;
-use thread_stand::{Kind, Stand, Trouble};
 
 /// A process, and the script in whose names its values are told.
 #[derive(Drop)]

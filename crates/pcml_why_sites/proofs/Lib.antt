@@ -1,3 +1,9 @@
+pub mod Forgetting
 pub mod Knotting
+pub mod Lining
+pub mod Passing
 pub mod Places
+pub mod Seeing
 pub mod Standing
+pub mod Valuing
+pub mod Variables

@@ -10,9 +10,9 @@ use Rattle.protocol_values.specs.declared.RowResult.{RowResult}
 use Rattle.protocol_values.specs.Commits.{gives}
 use Rattle.thread.specs.After.{Chosen}
 use Rattle.thread.specs.Values.{Store}
-use Rattle.thread_stand.specs.Stands.{standing_of}
-use Rattle.thread_stand.specs.declared.stand.Stand.{Stand}
-use Rattle.thread_stand.proofs.Variables.{offers_are_told}
+use Rattle.pcml_why_sites.specs.Stands.{standing_of}
+use Rattle.pcml_why_sites.specs.declared.stand.Stand.{Stand}
+use Rattle.pcml_why_sites.proofs.Variables.{offers_are_told}
 use Rattle.journal_replay.specs.Lines.{trees_in}
 use Rattle.journal_replay.specs.Replays.{StandsAfter, TellsEnd}
 use Rattle.journal_replay.specs.Runs.{Config, applied, config_of, with_result}

@@ -1,6 +1,13 @@
 pub mod Edges
+pub mod Forgetting
 pub mod Knots
 pub mod Offering
 pub mod Results
 pub mod Sites
+pub mod Standing
+pub mod Stands
+pub mod Troubles
+pub mod Variables
+pub mod WalkEnds
+pub mod Walks
 pub mod Writing

@@ -2,10 +2,10 @@
 use Rattle.std.specs.Prelude.{◌≡◌, ℕ, List, length, Option, Some, slice_get, ⊤}
 use Rattle.std.specs.Global.{Vec}
 use Rattle.thread.specs.After.{State as Thread}
-use Rattle.thread_stand.specs.Standing.{Standing}
-use Rattle.thread_stand.specs.Stands.{IsTold, standing_of}
-use Rattle.thread_stand.specs.declared.stand.Stand.{Stand}
-use Rattle.thread_stand.specs.declared.stand.Stand.TheVariants.{Offers}
+use Rattle.pcml_why_sites.specs.Standing.{Standing}
+use Rattle.pcml_why_sites.specs.Stands.{IsTold, standing_of}
+use Rattle.pcml_why_sites.specs.declared.stand.Stand.{Stand}
+use Rattle.pcml_why_sites.specs.declared.stand.Stand.TheVariants.{Offers}
 use Rattle.thread.specs.Values.{Store}
 use Rattle.script_tree.specs.Processes.{Proc}
 use Rattle.protocol_values.specs.declared.Atom.{Atom}

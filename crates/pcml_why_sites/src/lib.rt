@@ -7,12 +7,21 @@
 
 mod edges;
 mod knot;
+mod laws;
 mod parts;
 mod results;
 mod site;
+mod stand;
+mod trouble;
+mod value;
+mod walk;
+mod walking;
 mod writing;
 
 pub use crate::knot::WaitGraph;
+pub use crate::laws::stand_laws;
 pub use crate::parts::process_texts;
 pub use crate::site::{Site, is_open, offers_on, others, sites_at};
+pub use crate::stand::Stand;
+pub use crate::trouble::{Kind, Trouble};
 pub use crate::writing::{WrittenOffer, same_side};

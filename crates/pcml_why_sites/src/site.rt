@@ -11,13 +11,13 @@ ghost use Rattle.protocol_values.specs.Values.{is_on};
 ghost use Rattle.pcml_why_sites.specs.Sites.{AreSites};
 
 use crate::results::stand_after;
-use thread::End;
+use crate::stand::Stand;
 use journal_replay::State;
 use protocol_values::{Atom, Commit, NackName, Offer, Side};
 use script::Script;
 use script_tree::Proc;
 use std::alloc::{AllocError, Global};
-use thread_stand::Stand;
+use thread::End;
 
 /// Where a process stands: its end, the line of its statement, its variables or what went wrong, and what its open sync
 /// offers.

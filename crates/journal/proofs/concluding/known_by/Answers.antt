@@ -1,7 +1,7 @@
 use Rattle.std.proofs.Common.{◌≡◌, ℕ, ◌∷◌, [], ◌++◌, List, Option, ap, append_assoc, length, refl, subst, sym, ◌∙◌, arith}
 use Rattle.std.proofs.lemmas.List.{length-append}
 use Rattle.thread.specs.Machines.{Thread}
-use Rattle.thread_stand.specs.declared.strand.Known.{Known}
+use Rattle.thread_strand.specs.declared.strand.Known.{Known}
 use Rattle.journal.specs.Concluding.{EachKnownBy, KnownBy, fired_in, last_in}
 use Rattle.journal.proofs.Telling.{known-more}
 use Rattle.journal.proofs.concluding.known_by.Goals as goal

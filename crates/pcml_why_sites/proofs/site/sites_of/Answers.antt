@@ -3,7 +3,7 @@ use Rattle.script_tree.specs.Processes.{Proc, proc_of}
 use Rattle.journal_replay.proofs.Telling.{holds-more}
 use Rattle.journal_replay.specs.Replays.{thread_count}
 use Rattle.journal_replay.specs.Runs.{config_of}
-use Rattle.thread_stand.specs.Stands.{standing_of}
+use Rattle.pcml_why_sites.specs.Stands.{standing_of}
 use Rattle.pcml_why_sites.specs.Sites.{TellsFault, TellsSite}
 use Rattle.pcml_why_sites.proofs.Standing.{process-at, stands_so}
 use Rattle.pcml_why_sites.proofs.site.sites_of.Goals as goal

@@ -4,9 +4,9 @@ use Rattle.std.proofs.lemmas.List.{length-append, length-map, length_push}
 use Rattle.std.proofs.lemmas.Option.{slice_get-map, slice_get_read}
 use Rattle.script_tree.specs.Processes.{proc_of, tree_of}
 use Rattle.script_tree.specs.Spawning.{spawner}
-use Rattle.thread_stand.specs.declared.strand.Known.{Known}
-use Rattle.thread_stand.specs.declared.strand.Strand.{Strand}
-use Rattle.thread_stand.specs.Strands.{Gathers}
+use Rattle.thread_strand.specs.declared.strand.Known.{Known}
+use Rattle.thread_strand.specs.declared.strand.Strand.{Strand}
+use Rattle.thread_strand.specs.Strands.{Gathers}
 use Rattle.journal_replay.proofs.Gathered.{GatheredSo, gathered-more, gathered-none}
 use Rattle.journal_replay.proofs.Lines.{TreesSo, trees-all, trees-more, trees-none}
 use Rattle.journal_replay.proofs.Lists.{slice_get-middle}

@@ -1,7 +1,7 @@
 use Rattle.std.proofs.Common.{rules, ◌≡◌, ◌<◌, ℕ, List, get_or, length, refl, slice_set, Some, inr, sym, ap, subst, ◌∙◌}
 use Rattle.std.proofs.lemmas.Option.{slice_get-get_or}
 use Rattle.std.proofs.Common.{slice_get}
-use Rattle.thread_stand.specs.declared.strand.Strand.{Strand}
+use Rattle.thread_strand.specs.declared.strand.Strand.{Strand}
 use Rattle.journal_replay.specs.Gathering.{IsEarly}
 use Rattle.journal_replay.proofs.threads.Threads.give_row.Goals as goal
 

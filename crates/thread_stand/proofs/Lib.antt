@@ -1,8 +1,0 @@
-pub mod Remembering
-pub mod Valuing
-pub mod Lining
-pub mod Forgetting
-pub mod Variables
-pub mod Passing
-pub mod Seeing
-pub mod Noting

@@ -1,9 +1,0 @@
-pub mod Troubles
-pub mod Standing
-pub mod Forgetting
-pub mod Stands
-pub mod Variables
-pub mod Walks
-pub mod WalkEnds
-pub mod Strands
-pub mod Fired

@@ -1,0 +1,2 @@
+pub mod Fired
+pub mod Strands
