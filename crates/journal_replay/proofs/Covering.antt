@@ -14,7 +14,7 @@ use Rattle.protocol_values.specs.declared.Message.{Message}
 use Rattle.protocol_values.specs.declared.Message.TheVariants.{Empty}
 use Rattle.protocol_values.specs.declared.Offer.{Offer}
 use Rattle.protocol_values.specs.declared.Row.{Row}
-use Rattle.journal_replay.specs.declared.openings.Openings.{Openings}
+use Rattle.journal_replay.specs.declared.open_offers.OpenOffers.{OpenOffers}
 use Rattle.thread_strand.specs.declared.strand.Strand.{Strand}
 use Rattle.protocol_values.specs.declared.Side.{Side}
 use Rattle.protocol_values.specs.declared.Side.TheVariants.{Sends, Receives}
@@ -59,7 +59,7 @@ pub lanes-last : (lanes : List Places) (c : ℕ) (at : Row × ℕ) → c < lengt
 lanes-last lanes c at within =
     subst (λ (xs : Places). Contains xs at) (sym (get_or-set_same lanes c (get_or lanes c [] ++ at ∷ []) [] within)) (contains-last (get_or lanes c []) at)
 
-module _ (o p : Openings) (at : Row × ℕ) where
+module _ (o p : OpenOffers) (at : Row × ℕ) where
   pub listed-send : (c : ℕ) → c < length o.senders.items → p.senders.items ≡ set o.senders.items c (get_or o.senders.items c [] ++ at ∷ []) →
       p.receivers.items ≡ o.receivers.items → p.brought ≡ o.brought → (x : Row × ℕ) (b : Base) → IsListed o x b → IsListed p x b
   listed-send c within sends receives brought x (Send d n) there = subst (λ (lanes : List Places). Contains (get_or lanes d []) x) (sym sends) (lanes-before o.senders.items c d at x within there)
@@ -89,10 +89,10 @@ module _ (o p : Openings) (at : Row × ℕ) where
 
 -- THE OFFERS OF A THREAD
 
-pub keeps-all : (o : Openings) → Keeps o o
+pub keeps-all : (o : OpenOffers) → Keeps o o
 keeps-all o = record { channels = λ h. h; listed = λ at b h. h; untried = λ at h. h }
 
-pub keeps-both : (o p q : Openings) → Keeps o p → Keeps p q → Keeps o q
+pub keeps-both : (o p q : OpenOffers) → Keeps o p → Keeps p q → Keeps o q
 keeps-both o p q f g = record {
   channels = λ h. g.channels (f.channels h);
   listed = λ at b h. g.listed at b (f.listed at b h);
@@ -100,19 +100,19 @@ keeps-both o p q f g = record {
 }
 
 -- of these offers of a row those before number n are there, and are untried
-pub record OpensTo (row : Row) (offers : List Offer) (n : ℕ) (old new : Openings) : Type 0 where
+pub record OpensTo (row : Row) (offers : List Offer) (n : ℕ) (old new : OpenOffers) : Type 0 where
   pub keeps : Keeps old new
   pub listed : (k : ℕ) (x : Offer) → k < n → slice_get offers k ≡ Some x → IsListed new (row, k) x.base
   pub untried : (k : ℕ) (x : Offer) → k < n → slice_get offers k ≡ Some x → Contains new.untried (row, k)
 
-pub opens-none : (row : Row) (offers : List Offer) (o : Openings) → OpensTo row offers 0 o o
+pub opens-none : (row : Row) (offers : List Offer) (o : OpenOffers) → OpensTo row offers 0 o o
 opens-none row offers o = record {
   keeps = keeps-all o;
   listed = λ k x lt is. absurd (omega (arith, lt));
   untried = λ k x lt is. absurd (omega (arith, lt));
 }
 
-pub opens-more : (row : Row) (offers : List Offer) (n : ℕ) (x : Offer) (o p q : Openings) → slice_get offers n ≡ Some x →
+pub opens-more : (row : Row) (offers : List Offer) (n : ℕ) (x : Offer) (o p q : OpenOffers) → slice_get offers n ≡ Some x →
     OpensTo row offers n o p → Adds (row, n) x.base p q → OpensTo row offers (n + 1) o q
 opens-more row offers n x o p q there before adds = record {
   keeps = keeps-both o p q before.keeps adds.keeps;
@@ -135,7 +135,7 @@ row_of t s = record { thread = t; sync = length s.machine.results }
 same-row : (t sync : ℕ) (r : Row) → t ≡ r.thread → sync ≡ r.sync → record { thread = t; sync = sync } ≡ r
 same-row t sync r e f = ap (λ (x : ℕ). record { thread = x; sync = sync }) e ∙ ap (λ (x : ℕ). record { thread = r.thread; sync = x }) f
 
-pub opens-all : (strands : List Strand) (rows t n : ℕ) (s : Strand) (o p : Openings) → slice_get strands t ≡ Some s → length (offers_in s.machine.phase) ≤ n →
+pub opens-all : (strands : List Strand) (rows t n : ℕ) (s : Strand) (o p : OpenOffers) → slice_get strands t ≡ Some s → length (offers_in s.machine.phase) ≤ n →
     OpensTo (row_of t s) (offers_in s.machine.phase) n o p → Opens strands rows t o p
 opens-all strands rows t n s o p there le to = record {
   keeps = to.keeps;
@@ -177,7 +177,7 @@ module _ (old new : List Strand) (rows : ℕ) where
   finds-before : (at : Row × ℕ) (b : Base) → Same at.0.thread → Finds new rows at b → Finds old rows at b
   finds-before at b same f = record { offer = f.offer; is = ap (option_and_then (next_offer rows at)) (sym same) ∙ f.is; base = f.base }
 
-  module _ (o p : Openings) (known : Covers old rows o) (keeps : Keeps o p)
+  module _ (o p : OpenOffers) (known : Covers old rows o) (keeps : Keeps o p)
       (each : (t : ℕ) → Same t ⊎ Opens new rows t o p) where
     listed-still : (at : Row × ℕ) (b : Base) → Finds new rows at b → IsListed p at b
     listed-still at b finds = ⊎_elim
@@ -212,22 +212,22 @@ module _ (old new : List Strand) (rows : ℕ) where
     covers-still = record { channels = keeps.channels known.channels; listed = listed-still; untried = untried-still }
 
 -- the threads of a commit are opened again
-pub covers-alone : (old new : List Strand) (rows t : ℕ) (o p : Openings) → Covers old rows o → ((u : ℕ) → (u ≡ t → ⊥) → slice_get new u ≡ slice_get old u) →
+pub covers-alone : (old new : List Strand) (rows t : ℕ) (o p : OpenOffers) → Covers old rows o → ((u : ℕ) → (u ≡ t → ⊥) → slice_get new u ≡ slice_get old u) →
     Opens new rows t o p → Covers new rows p
 covers-alone old new rows t o p known same opened = covers-still old new rows o p known opened.keeps
     (λ u. ⊎_elim (λ e. inr (subst (λ (v : ℕ). Opens new rows v o p) (sym e) opened)) (λ ne. inl (same u ne)) (cases_eq u t))
 
-opens-before : (strands : List Strand) (rows t : ℕ) (o p q : Openings) → Opens strands rows t o p → Keeps p q → Opens strands rows t o q
+opens-before : (strands : List Strand) (rows t : ℕ) (o p q : OpenOffers) → Opens strands rows t o p → Keeps p q → Opens strands rows t o q
 opens-before strands rows t o p q opened keeps = record {
   keeps = keeps-both o p q opened.keeps keeps;
   listed = λ at b mine finds. keeps.listed at b (opened.listed at b mine finds);
   untried = λ at b mine finds. keeps.untried at (opened.untried at b mine finds);
 }
 
-opens-after : (strands : List Strand) (rows t : ℕ) (o p q : Openings) → Keeps o p → Opens strands rows t p q → Opens strands rows t o q
+opens-after : (strands : List Strand) (rows t : ℕ) (o p q : OpenOffers) → Keeps o p → Opens strands rows t p q → Opens strands rows t o q
 opens-after strands rows t o p q keeps opened = record { keeps = keeps-both o p q keeps opened.keeps; listed = opened.listed; untried = opened.untried }
 
-pub covers-pair : (old new : List Strand) (rows t u : ℕ) (o p q : Openings) → Covers old rows o → ((v : ℕ) → (v ≡ t → ⊥) → (v ≡ u → ⊥) → slice_get new v ≡ slice_get old v) →
+pub covers-pair : (old new : List Strand) (rows t u : ℕ) (o p q : OpenOffers) → Covers old rows o → ((v : ℕ) → (v ≡ t → ⊥) → (v ≡ u → ⊥) → slice_get new v ≡ slice_get old v) →
     Opens new rows t o p → Opens new rows u p q → Covers new rows q
 covers-pair old new rows t u o p q known same first second = covers-still old new rows o q known (keeps-both o p q first.keeps second.keeps)
     (λ v. ⊎_elim
@@ -241,7 +241,7 @@ covers-pair old new rows t u o p q known same first second = covers-still old ne
 -- A LIST FROM WHICH CLOSED OFFERS ARE TAKEN OUT
 
 -- what is untried is all that counts
-pub untried-same : (o p : Openings) → p.untried ≡ o.untried → (c : Commit) → HasUntried o c → HasUntried p c
+pub untried-same : (o p : OpenOffers) → p.untried ≡ o.untried → (c : Commit) → HasUntried o c → HasUntried p c
 untried-same o p is (Pair sender receiver c m stamp) (inl h) = inl (subst (λ (xs : Places). Contains xs sender) (sym is) h)
 untried-same o p is (Pair sender receiver c m stamp) (inr h) = inr (subst (λ (xs : Places). Contains xs receiver) (sym is) h)
 untried-same o p is (Alone at (cause.Always m) stamp) h = subst (λ (xs : Places). Contains xs at) (sym is) h
@@ -259,7 +259,7 @@ lanes-kept strands rows side lanes c d m new x within keeps finds there = ⊎_el
     (λ ne. subst (λ (xs : Places). Contains xs x) (sym (get_or-set_other lanes c d new [] ne)) there)
     (cases_eq d c)
 
-module _ (strands : List Strand) (rows : ℕ) (o p : Openings) (known : Covers strands rows o) (untried : p.untried ≡ o.untried) where
+module _ (strands : List Strand) (rows : ℕ) (o p : OpenOffers) (known : Covers strands rows o) (untried : p.untried ≡ o.untried) where
   untried-still-there : (c : Commit) (below : ℕ) → MayFollow strands rows c below → HasUntried p c
   untried-still-there c below may = untried-same o p untried c (known.untried c below may)
 
@@ -357,19 +357,19 @@ may-pair strands rows sender receiver c m sends receives apart = record {
 -- ALL THREADS
 
 -- what the threads below t offer is there, and is untried
-pub record OpensBelow (strands : List Strand) (rows t : ℕ) (o : Openings) : Type 0 where
+pub record OpensBelow (strands : List Strand) (rows t : ℕ) (o : OpenOffers) : Type 0 where
   pub channels : HasChannels o
   pub listed : (at : Row × ℕ) (b : Base) → at.0.thread < t → Finds strands rows at b → IsListed o at b
   pub untried : (at : Row × ℕ) (b : Base) → at.0.thread < t → Finds strands rows at b → Contains o.untried at
 
-pub below-none : (strands : List Strand) (rows : ℕ) (o : Openings) → HasChannels o → OpensBelow strands rows 0 o
+pub below-none : (strands : List Strand) (rows : ℕ) (o : OpenOffers) → HasChannels o → OpensBelow strands rows 0 o
 below-none strands rows o has = record {
   channels = has;
   listed = λ at b lt finds. absurd (omega (arith, lt));
   untried = λ at b lt finds. absurd (omega (arith, lt));
 }
 
-pub below-more : (strands : List Strand) (rows t : ℕ) (o p : Openings) → OpensBelow strands rows t o → Opens strands rows t o p → OpensBelow strands rows (t + 1) p
+pub below-more : (strands : List Strand) (rows t : ℕ) (o p : OpenOffers) → OpensBelow strands rows t o → Opens strands rows t o p → OpensBelow strands rows (t + 1) p
 below-more strands rows t o p before opened = record {
   channels = opened.keeps.channels before.channels;
   listed = λ at b lt finds. ⊎_elim
@@ -382,7 +382,7 @@ below-more strands rows t o p before opened = record {
       (cases_eq at.0.thread t);
 }
 
-pub below-all : (strands : List Strand) (rows t : ℕ) (o : Openings) → length strands ≤ t → OpensBelow strands rows t o → Covers strands rows o
+pub below-all : (strands : List Strand) (rows t : ℕ) (o : OpenOffers) → length strands ≤ t → OpensBelow strands rows t o → Covers strands rows o
 below-all strands rows t o le all = record { channels = all.channels; listed = λ at b finds. all.listed at b (low at b finds) finds; untried = untried } where
   low : (at : Row × ℕ) (b : Base) → Finds strands rows at b → at.0.thread < t
   low at b finds = option_and_then_some (next_offer rows at) (slice_get strands at.0.thread) finds.offer finds.is
@@ -404,7 +404,7 @@ contains-but-last xs at x last there = ⊎_elim
     inr (there.0, omega (arith, lt, length-take (length xs - 1) xs), get_or-take (length xs - 1) xs there.0 x lt ∙ there.2))
     (cases_eq there.0 (length xs - 1))
 
-still-untried : (strands : List Strand) (rows : ℕ) (o p : Openings) (at : Row × ℕ) → slice_get o.untried (length o.untried - 1) ≡ Some at → NoneMayWith strands rows at → p.untried ≡ take (length o.untried - 1) o.untried →
+still-untried : (strands : List Strand) (rows : ℕ) (o p : OpenOffers) (at : Row × ℕ) → slice_get o.untried (length o.untried - 1) ≡ Some at → NoneMayWith strands rows at → p.untried ≡ take (length o.untried - 1) o.untried →
     (c : Commit) (below : ℕ) → MayFollow strands rows c below → HasUntried o c → HasUntried p c
 still-untried strands rows o p at last none is (Pair sender receiver c m stamp) below may (inl h) = ⊎_elim
     (λ e. absurd (none (Pair sender receiver c m stamp) below may (inl (sym e))))
@@ -422,7 +422,7 @@ still-untried strands rows o p at last none is (Alone row (cause.Nack n) stamp) 
 still-untried strands rows o p at last none is (Alone row (cause.End t) stamp) below may h = h
 
 -- the last untried offer was tried in vain
-pub covers-tried : (strands : List Strand) (rows : ℕ) (o p : Openings) (at : Row × ℕ) → Covers strands rows o → slice_get o.untried (length o.untried - 1) ≡ Some at → NoneMayWith strands rows at →
+pub covers-tried : (strands : List Strand) (rows : ℕ) (o p : OpenOffers) (at : Row × ℕ) → Covers strands rows o → slice_get o.untried (length o.untried - 1) ≡ Some at → NoneMayWith strands rows at →
     p.senders.items ≡ o.senders.items → p.receivers.items ≡ o.receivers.items → p.brought ≡ o.brought → p.untried ≡ take (length o.untried - 1) o.untried → Covers strands rows p
 covers-tried strands rows o p at known last none sends receives brought is = record {
   channels = (ap (λ (lanes : List Places). length lanes) sends ∙ known.channels.0, ap (λ (lanes : List Places). length lanes) receives ∙ known.channels.1);
@@ -441,7 +441,7 @@ nothing-in : (xs : Places) (x : Row × ℕ) → slice_get xs (length xs - 1) ≡
 nothing-in xs x none there = none-some (get_or xs (length xs - 1) x) (sym none ∙ slice_get-get_or xs (length xs - 1) x (omega (arith, there.1)))
 
 -- nothing is untried, no nack is fired and no thread has ended for which an offer waits
-none-left : (strands : List Strand) (rows : ℕ) (o : Openings) → Covers strands rows o → slice_get o.untried (length o.untried - 1) ≡ None → NoneBrought strands rows o.brought → NoneMay strands rows
+none-left : (strands : List Strand) (rows : ℕ) (o : OpenOffers) → Covers strands rows o → slice_get o.untried (length o.untried - 1) ≡ None → NoneBrought strands rows o.brought → NoneMay strands rows
 none-left strands rows o known empty none (Pair sender receiver c m stamp) below may = ⊎_elim
     (λ h. nothing-in o.untried sender empty h)
     (λ h. nothing-in o.untried receiver empty h)
@@ -450,7 +450,7 @@ none-left strands rows o known empty none (Alone at (cause.Always m) stamp) belo
 none-left strands rows o known empty none (Alone at (cause.Nack n) stamp) below may = none at (cause.Nack n) tt may.0 (known.listed at (OnNack n) may.0) below may.1
 none-left strands rows o known empty none (Alone at (cause.End t) stamp) below may = none at (cause.End t) tt may.0 (known.listed at (OnEnd t) may.0) below may.1
 
-pub finds-left : (strands : List Strand) (rows : ℕ) (o : Openings) (r : Option Commit) → Covers strands rows o → slice_get o.untried (length o.untried - 1) ≡ None →
+pub finds-left : (strands : List Strand) (rows : ℕ) (o : OpenOffers) (r : Option Commit) → Covers strands rows o → slice_get o.untried (length o.untried - 1) ≡ None →
     MatchOption r (NoneBrought strands rows o.brought) (MayBe strands rows) → MatchOption r (NoneMay strands rows) (MayBe strands rows)
 finds-left strands rows o None known empty none = none-left strands rows o known empty none
 finds-left strands rows o (Some c) known empty may = may

@@ -11,7 +11,7 @@ use Rattle.protocol_values.specs.declared.Commit.TheVariants.{Pair, Alone}
 use Rattle.protocol_values.specs.declared.Message.{Message}
 use Rattle.protocol_values.specs.declared.NackName.{NackName}
 use Rattle.protocol_values.specs.declared.Row.{Row}
-use Rattle.journal_replay.specs.declared.openings.Openings.{Openings}
+use Rattle.journal_replay.specs.declared.open_offers.OpenOffers.{OpenOffers}
 use Rattle.thread_strand.specs.declared.strand.Strand.{Strand}
 use Rattle.protocol_values.specs.declared.Side.{Side}
 use Rattle.protocol_values.specs.declared.Side.TheVariants.{Sends, Receives}
@@ -80,14 +80,14 @@ NoneMay strands rows = (c : Commit) (below : ℕ) → MayFollow strands rows c b
 abbrev pub NoneMayWith : List Strand → ℕ → Row × ℕ → Type 0
 NoneMayWith strands rows at = (c : Commit) (below : ℕ) → MayFollow strands rows c below → IsWith at c → ⊥
 
--- OPENINGS
+-- OPEN OFFERS
 
 -- there is a list for each number of a channel
-abbrev pub HasChannels : Openings → Type 0
+abbrev pub HasChannels : OpenOffers → Type 0
 HasChannels o = (length o.senders.items ≡ 256) × (length o.receivers.items ≡ 256)
 
 -- the offer is listed where its base event belongs
-abbrev pub IsListed : Openings → Row × ℕ → Base → Type 0
+abbrev pub IsListed : OpenOffers → Row × ℕ → Base → Type 0
 IsListed o at (Send c m) = Contains (slice_index_or o.senders.items c []) at
 IsListed o at (Recv c) = Contains (slice_index_or o.receivers.items c []) at
 IsListed o at (OnNack n) = Contains o.brought at
@@ -96,37 +96,37 @@ IsListed o at (base.Always m) = ⊤
 IsListed o at Never = ⊤
 
 -- an offer that the commit takes is untried, or a nack or an end is its cause
-abbrev pub HasUntried : Openings → Commit → Type 0
+abbrev pub HasUntried : OpenOffers → Commit → Type 0
 HasUntried o (Pair sender receiver c m stamp) = Contains o.untried sender ⊎ Contains o.untried receiver
 HasUntried o (Alone row (Always m) stamp) = Contains o.untried row
 HasUntried o (Alone row (Nack n) stamp) = ⊤
 HasUntried o (Alone row (End t) stamp) = ⊤
 
 -- all that the threads offer is listed, and of what is tried no commit comes
-pub record Covers (strands : List Strand) (rows : ℕ) (o : Openings) : Type 0 where
+pub record Covers (strands : List Strand) (rows : ℕ) (o : OpenOffers) : Type 0 where
   pub channels : HasChannels o
   pub listed : (at : Row × ℕ) (b : Base) → Finds strands rows at b → IsListed o at b
   pub untried : (c : Commit) (below : ℕ) → MayFollow strands rows c below → HasUntried o c
 
 -- nothing is taken away
-pub record Keeps (old new : Openings) : Type 0 where
+pub record Keeps (old new : OpenOffers) : Type 0 where
   pub channels : HasChannels old → HasChannels new
   pub listed : (at : Row × ℕ) (b : Base) → IsListed old at b → IsListed new at b
   pub untried : (at : Row × ℕ) → Contains old.untried at → Contains new.untried at
 
-pub record Lists (at : Row × ℕ) (b : Base) (old new : Openings) : Type 0 where
+pub record Lists (at : Row × ℕ) (b : Base) (old new : OpenOffers) : Type 0 where
   pub channels : HasChannels old → HasChannels new
   pub kept : (x : Row × ℕ) (d : Base) → IsListed old x d → IsListed new x d
   pub there : IsListed new at b
   pub untried : new.untried ≡ old.untried
 
-pub record Adds (at : Row × ℕ) (b : Base) (old new : Openings) : Type 0 where
+pub record Adds (at : Row × ℕ) (b : Base) (old new : OpenOffers) : Type 0 where
   pub keeps : Keeps old new
   pub listed : IsListed new at b
   pub untried : Contains new.untried at
 
 -- what thread t offers is there, and is untried
-pub record Opens (strands : List Strand) (rows t : ℕ) (old new : Openings) : Type 0 where
+pub record Opens (strands : List Strand) (rows t : ℕ) (old new : OpenOffers) : Type 0 where
   pub keeps : Keeps old new
   pub listed : (at : Row × ℕ) (b : Base) → at.0.thread ≡ t → Finds strands rows at b → IsListed new at b
   pub untried : (at : Row × ℕ) (b : Base) → at.0.thread ≡ t → Finds strands rows at b → Contains new.untried at

@@ -10,7 +10,7 @@
 
 mod gathering;
 mod nexts;
-mod openings;
+mod open_offers;
 mod placed;
 mod runs;
 mod search;

@@ -9,7 +9,7 @@ ghost use Rattle.journal_replay.specs.Lines.{trees_in};
 ghost use Rattle.journal_replay.specs.Runs.{BreaksOffAt};
 ghost use Rattle.journal_replay.specs.Stamping.{AreLegal, AreRestamped};
 
-use crate::openings::Openings;
+use crate::open_offers::OpenOffers;
 use crate::state::{ReplayFault, State};
 use crate::threads::Threads;
 use protocol_values::Commit;
@@ -95,11 +95,11 @@ pub fn settle(alloc: Global, state: State) -> Result<(State, Vec<Commit>), Alloc
     ensures trees { IfOk result (λ settled. trees_in settled.0 ≡ trees_in state) }
 {
     let mut threads = state.threads;
-    let mut openings = Openings::of(alloc, &threads)?;
+    let mut open_offers = OpenOffers::of(alloc, &threads)?;
     let mut added = Vec::new(alloc);
-    while let Some(commit) = openings.find(&threads) {
+    while let Some(commit) = open_offers.find(&threads) {
         let woke = threads.apply(&commit)?;
-        openings.follow(&threads, &commit, woke)?;
+        open_offers.follow(&threads, &commit, woke)?;
         added.push(commit)?;
     }
     Ok((State { threads }, added))

@@ -10,7 +10,7 @@ use Rattle.journal_replay.proofs.runs.settle.Goals as goal
 pub loop-commit-init : goal.loop-commit-init
 loop-commit-init c = record {
   reached = c.args.state.reached;
-  covers = c.in_ok-openings.ensures;
+  covers = c.in_ok-open_offers.ensures;
   trees = refl;
   run = λ ps rows journal stands.
       subst (λ (cs : List Commit). AreAfter ps rows (journal ++ cs) c.args.state.threads) (sym c.new-added.ensures.items)

@@ -10,7 +10,7 @@ use Rattle.journal_replay.proofs.runs.settle.Given as goal
 abbrev pub invariant-loop-commit : goal.invariant-loop-commit
 invariant-loop-commit l = record {
   reached : IsReached l.threads;
-  covers : Covers l.threads.strands.items l.threads.rows l.openings;
+  covers : Covers l.threads.strands.items l.threads.rows l.open_offers;
   trees : trees_of l.threads.strands.items ≡ trees_of l.fn.state.threads.strands.items;
   run : (ps : List Proc) (rows : ℕ) (journal : List Commit) → AreAfter ps rows journal l.fn.state.threads → AreAfter ps rows (journal ++ l.added.items) l.threads;
 }

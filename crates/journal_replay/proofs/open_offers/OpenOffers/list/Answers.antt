@@ -1,16 +1,16 @@
 use Rattle.std.proofs.Common.{◌≡◌, ◌<◌, ◌++◌, ◌∷◌, [], ℕ, List, Contains, length, get_or, set, refl, sym, ap, ◌∙◌, subst, rules}
 use Rattle.std.specs.Vec.{with_item}
 use Rattle.std.proofs.lemmas.List.{length-set, get_or_default}
-use Rattle.journal_replay.specs.declared.openings.Openings.{Openings}
+use Rattle.journal_replay.specs.declared.open_offers.OpenOffers.{OpenOffers}
 use Rattle.journal_replay.specs.Searching.{IsListed, Places}
 use Rattle.journal_replay.proofs.Covering.{lanes-last, listed-recv, listed-send}
-use Rattle.journal_replay.proofs.openings.Openings.list.Goals as goal
+use Rattle.journal_replay.proofs.open_offers.OpenOffers.list.Goals as goal
 
 pub returns-in_ok-add-in-Send : goal.returns-in_ok-add-in-Send
 returns-in_ok-add-in-Send c =
     let o = c.args.self.now in
     let lanes : List Places = o.senders.items in
-    let p : Openings = record { senders = with_item o.senders c.from.result c.add.new.self; receivers = o.receivers; brought = o.brought; untried = o.untried } in
+    let p : OpenOffers = record { senders = with_item o.senders c.from.result c.add.new.self; receivers = o.receivers; brought = o.brought; untried = o.untried } in
     let i : ℕ = c.from.result in
     let now : Places = c.index_mut.result.now in
     let within : i < length lanes = search rules in
@@ -30,7 +30,7 @@ pub returns-in_ok-add-in-Recv : goal.returns-in_ok-add-in-Recv
 returns-in_ok-add-in-Recv c =
     let o = c.args.self.now in
     let lanes : List Places = o.receivers.items in
-    let p : Openings = record { senders = o.senders; receivers = with_item o.receivers c.from-in-Recv.result c.add-in-Recv.new.self; brought = o.brought; untried = o.untried } in
+    let p : OpenOffers = record { senders = o.senders; receivers = with_item o.receivers c.from-in-Recv.result c.add-in-Recv.new.self; brought = o.brought; untried = o.untried } in
     let i : ℕ = c.from-in-Recv.result in
     let now : Places = c.index_mut-in-Recv.result.now in
     let within : i < length lanes = search rules in

@@ -3,7 +3,7 @@ use Rattle.protocol_values.specs.declared.Commit.{Commit}
 use Rattle.journal_replay.specs.Searching.{NoneMayWith, Places}
 use Rattle.journal_replay.specs.Standing.{MayBe}
 use Rattle.journal_replay.proofs.Covering.{covers-brought, covers-tried, finds-left}
-use Rattle.journal_replay.proofs.openings.Openings.find.Goals as goal
+use Rattle.journal_replay.proofs.open_offers.OpenOffers.find.Goals as goal
 
 pub loop-at-preserved : goal.loop-at-preserved
 loop-at-preserved c =

@@ -1,6 +1,6 @@
 use Rattle.std.proofs.Common.{rules}
 use Rattle.journal_replay.proofs.Covering.{below-all, below-more, below-none}
-use Rattle.journal_replay.proofs.openings.Openings.open_all.Goals as goal
+use Rattle.journal_replay.proofs.open_offers.OpenOffers.open_all.Goals as goal
 
 pub loop-thread-init : goal.loop-thread-init
 loop-thread-init c = below-none c.args.threads.now.strands.items c.args.threads.now.rows c.args.self.now c.requires.channels

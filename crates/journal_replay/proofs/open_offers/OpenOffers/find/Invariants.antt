@@ -1,6 +1,6 @@
 use Rattle.std.proofs.Common.{length}
 use Rattle.journal_replay.specs.Searching.{Covers}
-use Rattle.journal_replay.proofs.openings.Openings.find.Given as goal
+use Rattle.journal_replay.proofs.open_offers.OpenOffers.find.Given as goal
 
 abbrev pub invariant-loop-at : goal.invariant-loop-at
 invariant-loop-at l = Covers l.threads.strands.items l.threads.rows l.self

@@ -4,13 +4,13 @@ use Rattle.std.proofs.lemmas.List.{get_or_default}
 use Rattle.protocol_values.specs.declared.Base.TheVariants.{Send, Recv}
 use Rattle.protocol_values.specs.declared.Message.{Message}
 use Rattle.protocol_values.specs.declared.Row.{Row}
-use Rattle.journal_replay.specs.declared.openings.Openings.{Openings}
+use Rattle.journal_replay.specs.declared.open_offers.OpenOffers.{OpenOffers}
 use Rattle.protocol_values.specs.declared.Side.{Side}
 use Rattle.protocol_values.specs.declared.Side.TheVariants.{Sends, Receives}
 use Rattle.journal_replay.specs.Searching.{KeepsSide, Places, base_on}
 use Rattle.journal_replay.specs.Standing.{Finds}
 use Rattle.journal_replay.proofs.Covering.{covers-receives, covers-sends, finds-other}
-use Rattle.journal_replay.proofs.openings.Openings.partner.Goals as goal
+use Rattle.journal_replay.proofs.open_offers.OpenOffers.partner.Goals as goal
 
 pub returns-in-Sends-clause-covers : goal.returns-in-Sends-clause-covers
 returns-in-Sends-clause-covers c =
@@ -21,7 +21,7 @@ returns-in-Sends-clause-covers c =
     let new : Places = c.partner.new.self in
     let within : i < length o.senders.items = search rules in
     let was : now ≡ get_or o.senders.items i [] = c.index_mut.ensures.value ∙ get_or_default o.senders.items i now [] within in
-    let p : Openings = record { senders = with_item o.senders i new; receivers = o.receivers; brought = o.brought; untried = o.untried } in
+    let p : OpenOffers = record { senders = with_item o.senders i new; receivers = o.receivers; brought = o.brought; untried = o.untried } in
     covers-sends s.strands.items s.rows o p c.requires refl i new within
     (subst (λ (xs : Places). KeepsSide s.strands.items s.rows Sends i xs new) was
     (subst (λ (n : ℕ). KeepsSide s.strands.items s.rows Sends n now new) (sym c.from-channel.ensures)
@@ -52,7 +52,7 @@ returns-in-Receives-clause-covers c =
     let new : Places = c.partner-in-Receives.new.self in
     let within : i < length o.receivers.items = search rules in
     let was : now ≡ get_or o.receivers.items i [] = c.index_mut-in-Receives.ensures.value ∙ get_or_default o.receivers.items i now [] within in
-    let p : Openings = record { senders = o.senders; receivers = with_item o.receivers i new; brought = o.brought; untried = o.untried } in
+    let p : OpenOffers = record { senders = o.senders; receivers = with_item o.receivers i new; brought = o.brought; untried = o.untried } in
     covers-receives s.strands.items s.rows o p c.requires refl i new within
     (subst (λ (xs : Places). KeepsSide s.strands.items s.rows Receives i xs new) was
     (subst (λ (n : ℕ). KeepsSide s.strands.items s.rows Receives n now new) (sym c.from-channel.ensures)

@@ -4,7 +4,7 @@ use Rattle.protocol_values.specs.declared.Commit.{Commit}
 use Rattle.journal_replay.specs.Searching.{NoneMayWith}
 use Rattle.journal_replay.specs.Standing.{Finds, MayBe}
 use Rattle.journal_replay.proofs.Covering.{may-pair, none-with-recv, none-with-send}
-use Rattle.journal_replay.proofs.openings.Openings.commit_with.Goals as goal
+use Rattle.journal_replay.proofs.open_offers.OpenOffers.commit_with.Goals as goal
 
 pub returns-in_err-receiver-in-Send-clause-found : goal.returns-in_err-receiver-in-Send-clause-found
 returns-in_err-receiver-in-Send-clause-found c =

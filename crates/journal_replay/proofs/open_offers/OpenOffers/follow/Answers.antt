@@ -5,7 +5,7 @@ use Rattle.journal_replay.specs.Runs.{message_by}
 use Rattle.journal_replay.specs.Standing.{Takes}
 use Rattle.journal_replay.proofs.Covering.{covers-alone, covers-pair}
 use Rattle.journal_replay.proofs.Standing.{at-other}
-use Rattle.journal_replay.proofs.openings.Openings.follow.Goals as goal
+use Rattle.journal_replay.proofs.open_offers.OpenOffers.follow.Goals as goal
 
 pub returns-in_ok-open-in-Pair-2 : goal.returns-in_ok-open-in-Pair-2
 returns-in_ok-open-in-Pair-2 c = λ old made known.

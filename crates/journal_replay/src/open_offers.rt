@@ -18,7 +18,7 @@ const CHANNELS: usize = 256;
 /// send and those that receive, and those whose cause another commit brings about, on nacks and on ends. Of an
 /// offer that is not among the untried ones no commit comes, but with one of these or by such a cause.
 #[derive(Drop)]
-pub(crate) struct Openings {
+pub(crate) struct OpenOffers {
     senders: Vec<Waiters>,
     receivers: Vec<Waiters>,
     brought: Waiters,
@@ -36,20 +36,20 @@ fn channels(alloc: Global) -> Result<Vec<Waiters>, AllocError>
     Ok(lists)
 }
 
-impl Openings {
+impl OpenOffers {
     /// All that the threads offer.
-    pub(crate) fn of(alloc: Global, threads: &Threads) -> Result<Openings, AllocError>
+    pub(crate) fn of(alloc: Global, threads: &Threads) -> Result<OpenOffers, AllocError>
         requires { length threads.now.strands.items ≤ 64 }
         ensures { IfOk result (Covers threads.now.strands.items threads.now.rows) }
     {
-        let mut openings = Openings {
+        let mut open_offers = OpenOffers {
             senders: channels(alloc)?,
             receivers: channels(alloc)?,
             brought: Waiters::new(alloc),
             untried: Waiters::new(alloc),
         };
-        openings.open_all(threads)?;
-        Ok(openings)
+        open_offers.open_all(threads)?;
+        Ok(open_offers)
     }
 
     /// Adds what the threads offer at their next syncs.
