@@ -20,7 +20,7 @@ use Rattle.protocol_ledger.specs.declared.opening.NackState.TheVariants.{Dead, E
 use Rattle.journal_ledger.specs.Behind.{TellsRun, nack_state}
 use Rattle.journal_ledger.specs.Ledgers.{IsLedgerOf, IsOrderOf, fired_as}
 use Rattle.journal_ledger.proofs.Leading.{tells-thread}
-use Rattle.thread_stand.specs.declared.strand.Known.{Known}
+use Rattle.thread_strand.specs.declared.strand.Known.{Known}
 use Rattle.journal_replay.proofs.Lists.{nothing-there, slice_get-first, slice_get-last, slice_get-more}
 use Rattle.journal_replay.specs.Gathering.{AreKnown, HasGone, IsKnown, KnowsLast}
 use Rattle.journal_replay.specs.Runs.{Config, CountsOf, IsGreatest, Starts, config_of}

@@ -9,7 +9,7 @@ use Rattle.protocol_ledger.specs.declared.opening.Life.{Life}
 use Rattle.protocol_ledger.specs.declared.opening.Life.TheVariants.{Unstarted, Running, Ended}
 use Rattle.protocol_ledger.specs.declared.opening.NackState.{NackState}
 use Rattle.journal_ledger.specs.Ledgers.{fired_as}
-use Rattle.thread_stand.specs.declared.strand.Known.{Known}
+use Rattle.thread_strand.specs.declared.strand.Known.{Known}
 use Rattle.protocol_values.specs.declared.Commit.{Commit}
 use Rattle.journal_replay.specs.Gathering.{HasGone}
 use Rattle.journal_replay.specs.Runs.{config_of}
