@@ -8,3 +8,5 @@ pub mod Reading
 pub mod Answers
 pub mod RunTexts
 pub mod Starts
+pub mod Offers
+pub mod Endings

@@ -5,7 +5,7 @@
 //! - `read_journal` reads them again: Ok exactly where the bytes are the text of commits, else it names the
 //!   first line that is not of the form (`journal_text_laws`).
 //! - `push_thread`, `push_atom`, `push_message` and the like append names and values to a text, as they stand in a
-//!   journal. A name that is not declared is left out.
+//!   journal, `push_offer` an offer. A name that is not declared is left out.
 //! - `run_text_law`: the commits of a run have lines, and what is printed has names. `start_law`: which processes have
 //!   started.
 #![tactic(auto)]
@@ -20,20 +20,24 @@ ghost use Rattle.journal_text.specs.Texts.{commits_text};
 ghost use Rattle.journal_text.specs.declared.JournalFault.TheVariants.{Memory};
 ghost use Rattle.script.specs.Scripts.{script_of};
 
+mod ending;
 mod labels;
 mod laws;
 mod line;
 mod listing;
 mod name;
 mod names;
+mod offer;
 mod value;
 mod writing;
 
+pub use crate::ending::push_syncs;
 use crate::labels::Labels;
 pub use crate::laws::{journal_text_laws, run_text_law, start_law};
 use crate::line::Front;
 pub use crate::name::{push_channel, push_nack, push_thread};
 use crate::names::Names;
+pub use crate::offer::push_offer;
 pub use crate::value::{push_atom, push_cause, push_message};
 use crate::writing::{LINE_LEN, LINE_NAMES, LONGEST_NUMBER, put_line};
 use protocol_values::Commit;

@@ -5,7 +5,8 @@ use Rattle.protocol_values.specs.declared.Base.{Base}
 use Rattle.protocol_values.specs.declared.Row.{Row}
 use Rattle.journal_text.specs.Names.{Naming}
 use Rattle.journal_text.specs.Texts.{nack_text}
-use Rattle.pcml_why.specs.Whys.{offer_text, syncs_text}
+use Rattle.journal_text.specs.Endings.{syncs_text}
+use Rattle.journal_text.specs.Offers.{offer_text}
 use Rattle.pcml_answers.specs.declared.reason.Reason.{Reason}
 use Rattle.pcml_answers.specs.declared.reason.Reason.TheVariants.{OneThread, Unstarted, Ended, Faulted, Spent, Sync, NoOffer, OtherOffer, NotFired, NotEnded, Stamp}
 

@@ -7,11 +7,11 @@ ghost use Rattle.pcml_answers.specs.Standings.{TellsStandings, printed_text, pro
 ghost use Rattle.journal_text.specs.Names.{named};
 ghost use Rattle.script.specs.Appending.{Adds};
 
-use thread::End;
 use journal_text::push_atom;
 use protocol_values::Atom;
 use script::Script;
 use std::alloc::{AllocError, Global};
+use thread::End;
 
 /// Each atom behind a space.
 fn push_printed(out: &mut String, script: &Script, printed: &[Atom]) -> Result<(), AllocError>

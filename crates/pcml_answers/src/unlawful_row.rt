@@ -5,9 +5,9 @@ ghost use Rattle.journal_replay.specs.Replays.{thread_count};
 ghost use Rattle.pcml_answers.specs.Telling.{TellsOffers, TellsRow, is_of, stopped_reason};
 
 use crate::reason::Reason;
-use thread::End;
 use journal_replay::State;
 use protocol_values::{Base, Commit, Offer, Row};
+use thread::End;
 
 /// Whether a row of the commit is of the thread.
 fn is_of(commit: &Commit, thread: u8) -> bool

@@ -7,8 +7,7 @@ ghost use Rattle.journal_text.specs.Names.{named};
 ghost use Rattle.pcml_answers.specs.Texts.{count_text, late_text, next_text, other_text, reason_text, row_text};
 
 use crate::reason::Reason;
-use journal_text::{push_nack, push_thread};
-use pcml_why::{push_offer, push_syncs};
+use journal_text::{push_nack, push_offer, push_syncs, push_thread};
 use protocol_values::{Base, Row};
 use script::Script;
 use std::alloc::AllocError;

@@ -4,7 +4,7 @@ use Rattle.std.specs.Fmt.{decimal}
 use Rattle.std.specs.List.{flat_map}
 use Rattle.protocol_values.specs.declared.Offer.{Offer}
 use Rattle.journal_text.specs.Names.{Naming}
-use Rattle.pcml_why.specs.Whys.{offer_text}
+use Rattle.journal_text.specs.Offers.{offer_text}
 use Rattle.pcml_chart_layout.specs.Feet.{offers_of, stand_text}
 use Rattle.pcml_chart_layout.specs.declared.foot.Foot.{Foot}
 use Rattle.pcml_chart.specs.Texts.{centered, label, text_end}

@@ -8,7 +8,7 @@ use Rattle.protocol_values.specs.declared.Offer.{Offer}
 use Rattle.script.specs.Sources.{Script}
 use Rattle.journal_text.specs.Names.{Naming, named}
 use Rattle.journal_replay.specs.declared.state.State.{State}
-use Rattle.pcml_why.specs.Whys.{offer_text}
+use Rattle.journal_text.specs.Offers.{offer_text}
 use Rattle.pcml_chart_layout.specs.Feet.{AreFeet, offers_of, stand_text}
 use Rattle.pcml_chart_layout.specs.Labels.{label_text}
 use Rattle.pcml_chart_layout.specs.Places.{column, has_others, is_own, others_column}

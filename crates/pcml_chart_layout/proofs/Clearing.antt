@@ -10,7 +10,7 @@ use Rattle.protocol_values.specs.declared.Commit.{Commit}
 use Rattle.protocol_values.specs.declared.Commit.TheVariants.{Pair, Alone}
 use Rattle.protocol_values.specs.declared.Offer.{Offer}
 use Rattle.protocol_values.specs.Commits.{stamp_of}
-use Rattle.pcml_why.specs.Whys.{offer_text}
+use Rattle.journal_text.specs.Offers.{offer_text}
 use Rattle.pcml_chart_layout.specs.Clear.{Content, gaps_of, IsBetween, IsRound, LabelsAreClear, NamesAreClear, OffersAreClear, OthersAreClear, StampsAreClear, StandsAreClear}
 use Rattle.pcml_chart_layout.specs.Feet.{offers_of, stand_text}
 use Rattle.pcml_chart_layout.specs.Seen.{seen}

@@ -5,7 +5,7 @@ use Rattle.std.specs.List.{range_with_len}
 use Rattle.protocol_values.specs.declared.Commit.{Commit}
 use Rattle.protocol_values.specs.Commits.{stamp_of}
 use Rattle.journal_text.specs.Names.{Naming}
-use Rattle.pcml_why.specs.Whys.{offer_text}
+use Rattle.journal_text.specs.Offers.{offer_text}
 use Rattle.pcml_chart_layout.specs.Feet.{offers_of, stand_text}
 use Rattle.pcml_chart_layout.specs.Seen.{seen}
 use Rattle.pcml_chart_layout.specs.Labels.{gap_of, label_text}

@@ -6,18 +6,17 @@ ghost use Rattle.script.specs.Scripts.{script_of};
 ghost use Rattle.pcml_chart_layout.specs.Feet.{AreFeet, lines_below, offers_below, offers_of, printed_text, stand_text};
 ghost use Rattle.pcml_chart_layout.specs.Widths.{foot_length};
 ghost use Rattle.journal_text.specs.Names.{named};
-ghost use Rattle.pcml_why.specs.Whys.{offer_text};
+ghost use Rattle.journal_text.specs.Offers.{offer_text};
 ghost use Rattle.script.specs.Appending.{Adds};
 
 use crate::columns::Columns;
 use crate::seen::seen_length;
-use thread::End;
 use journal_replay::State;
-use journal_text::push_atom;
-use pcml_why::push_offer;
+use journal_text::{push_atom, push_offer};
 use protocol_values::{Atom, Offer};
 use script::Script;
 use std::alloc::{AllocError, Global};
+use thread::End;
 
 /// How a process stands, what it printed, and what its open sync offers.
 #[derive(Drop)]

@@ -12,7 +12,8 @@ use Rattle.protocol_values.specs.declared.NackName.{NackName}
 use Rattle.protocol_values.specs.declared.Offer.{Offer}
 use Rattle.script.specs.Sources.{Script}
 use Rattle.journal_text.specs.Names.{Naming, named}
-use Rattle.journal_text.specs.Texts.{message_text, nack_text}
+use Rattle.journal_text.specs.Offers.{offer_text}
+use Rattle.journal_text.specs.Endings.{syncs_text}
 use Rattle.journal_replay.specs.Replays.{TellsEnabled, TellsEnded, TellsFired, ended_by, fired_by}
 use Rattle.thread.specs.declared.end.End.{End}
 use Rattle.thread.specs.declared.end.End.TheVariants.{Ended, Waiting, Spent, Faulted, Unstarted}
@@ -49,14 +50,6 @@ abbrev pub variables_of : Facts → ℕ → List (List ℕ)
 variables_of facts t = variables_in (slice_get facts.processes t)
 
 -- THE TEXT OF AN OFFER
-
-abbrev pub offer_text : Naming → Base → List ℕ
-offer_text names (Send c m) = codes "send " ++ names.channel c ++ codes " " ++ message_text names m
-offer_text names (Recv c) = codes "recv " ++ names.channel c
-offer_text names (Always m) = codes "always " ++ message_text names m
-offer_text names (OnNack n) = codes "cancelled " ++ nack_text names n
-offer_text names (OnEnd u) = codes "joined " ++ names.thread u
-offer_text names Never = codes "never"
 
 -- each name behind a space
 abbrev pub listed : Naming → List ℕ → List ℕ
@@ -142,12 +135,6 @@ offer_line names facts sites t o = codes "  " ++ offer_text names o.base ++ code
 
 unfoldable pub spent_text : ℕ → List ℕ
 spent_text line = codes " is spent at line " ++ decimal line
-
-abbrev pub syncs_word : ℕ → List ℕ
-syncs_word rows = if rows == 1 then codes " sync\n" else codes " syncs\n"
-
-unfoldable pub syncs_text : ℕ → List ℕ
-syncs_text rows = codes ": it made " ++ decimal rows ++ syncs_word rows
 
 -- how a process stands, at a line, of so many syncs at most
 abbrev pub stand_text : Naming → List (List ℕ) → ℕ → ℕ → End → Stand → List ℕ

@@ -9,4 +9,4 @@ mod served;
 mod text;
 mod variables;
 
-pub use crate::text::{push_offer, push_syncs, why_text};
+pub use crate::text::why_text;

@@ -8,14 +8,14 @@ ghost use Rattle.journal_replay.specs.Replays.{StandsAfter, thread_count};
 ghost use Rattle.pcml_why.specs.Served.{AreAnswers};
 ghost use Rattle.pcml_why_sites.specs.Writing.{seen_texts};
 ghost use Rattle.pcml_why_sites.specs.Offering.{others};
-ghost use Rattle.pcml_why.specs.Whys.{IsWhy, process_text, also_text, known_at, never_if, never_text, receives_words, sends_words, also_words, chance_text, end_state_text, knot_text, knot_words, last_text, listed, lone_text, nack_state_text, nobody_words, offer_line, offer_text, offers_text, partners_text, same_words, site_text, spent_text, facts_of, stand_text, sync_words, syncs_text, syncs_word, unended_at, unended_text, unfired_text, why_text};
+ghost use Rattle.pcml_why.specs.Whys.{IsWhy, process_text, also_text, known_at, never_if, never_text, receives_words, sends_words, also_words, chance_text, end_state_text, knot_text, knot_words, last_text, listed, lone_text, nack_state_text, nobody_words, offer_line, offers_text, partners_text, same_words, site_text, spent_text, facts_of, stand_text, sync_words, unended_at, unended_text, unfired_text, why_text};
 ghost use Rattle.journal_text.specs.Names.{named};
 ghost use Rattle.script.specs.Appending.{Adds};
 
 use crate::served::{Answer, answers_of, is_by_nobody};
 use crate::variables::Namer;
 use journal_replay::State;
-use journal_text::{push_channel, push_message, push_nack, push_thread};
+use journal_text::{push_channel, push_offer, push_syncs, push_thread};
 use pcml_why_sites::{Site, Stand, WaitGraph, is_open, others, process_texts, sites_at};
 use protocol_values::{Base, Commit, NackName, Offer, Side};
 use script::Script;
@@ -33,37 +33,6 @@ struct Teller<'a> {
     sites: &'a [Site<'a>],
     answers: &'a [Answer],
     ghost are_answers: { AreAnswers (script_of script.now).processes answers.now },
-}
-
-/// Appends what an offer is, in the names of the script.
-pub fn push_offer(out: &mut String, script: &Script, base: Base) -> Result<(), AllocError>
-    ensures { OnOk result (Adds out.old out.new (offer_text (named (script_of script.now)) base)) }
-{
-    match base {
-        Base::Send(chan, message) => {
-            out.push_str("send ")?;
-            push_channel(out, script, chan)?;
-            out.push_str(" ")?;
-            push_message(out, script, message)
-        }
-        Base::Recv(chan) => {
-            out.push_str("recv ")?;
-            push_channel(out, script, chan)
-        }
-        Base::Always(message) => {
-            out.push_str("always ")?;
-            push_message(out, script, message)
-        }
-        Base::OnNack(nack) => {
-            out.push_str("cancelled ")?;
-            push_nack(out, script, nack)
-        }
-        Base::OnEnd(ended) => {
-            out.push_str("joined ")?;
-            push_thread(out, script, ended)
-        }
-        Base::Never => out.push_str("never"),
-    }
 }
 
 #[tactic(auto, unfolding(crate::specs::Whys::nobody_words))]
@@ -184,21 +153,6 @@ fn push_spent(out: &mut String, line: usize) -> Result<(), AllocError>
     ensures { OnOk result (Adds out.old out.new (spent_text line)) }
 {
     write!(out, " is spent at line {line}")
-}
-
-fn syncs_word(rows: u32) -> &'static str
-    ensures { result.now ≡ syncs_word rows }
-{
-    if rows == 1 { " sync\n" } else { " syncs\n" }
-}
-
-/// Appends how many syncs a process made that is spent.
-#[tactic(auto, unfolding(crate::specs::Whys::syncs_text))]
-pub fn push_syncs(out: &mut String, rows: u32) -> Result<(), AllocError>
-    ensures { OnOk result (Adds out.old out.new (syncs_text rows)) }
-{
-    write!(out, ": it made {rows}")?;
-    out.push_str(syncs_word(rows))
 }
 
 /// How a process stands, at a line, of at most `rows` syncs.

@@ -2,7 +2,7 @@ use Rattle.std.proofs.Common.{ℕ, List, length, max, ap, ap₂, ◌∙◌, take
 use Rattle.script.specs.Scripts.{script_of}
 use Rattle.journal_text.specs.Names.{named}
 use Rattle.protocol_values.specs.declared.Offer.{Offer}
-use Rattle.pcml_why.specs.Whys.{offer_text}
+use Rattle.journal_text.specs.Offers.{offer_text}
 use Rattle.pcml_chart_layout.specs.Seen.{seen}
 use Rattle.pcml_chart_layout.specs.Most.{most_by}
 use Rattle.pcml_chart_layout.proofs.Greatest.{most_by-step}

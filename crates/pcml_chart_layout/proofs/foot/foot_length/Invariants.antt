@@ -1,7 +1,7 @@
 use Rattle.std.proofs.Common.{◌≡◌, length, take}
 use Rattle.script.specs.Scripts.{script_of}
 use Rattle.journal_text.specs.Names.{named}
-use Rattle.pcml_why.specs.Whys.{offer_text}
+use Rattle.journal_text.specs.Offers.{offer_text}
 use Rattle.pcml_chart_layout.specs.Seen.{seen}
 use Rattle.pcml_chart_layout.specs.Most.{most_by}
 use Rattle.pcml_chart_layout.proofs.foot.foot_length.Given as goal
