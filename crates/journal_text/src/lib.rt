@@ -31,7 +31,7 @@ mod offer;
 mod value;
 mod writing;
 
-pub use crate::ending::push_syncs;
+pub use crate::ending::{push_printed, push_syncs};
 use crate::labels::Labels;
 pub use crate::laws::{journal_text_laws, run_text_law, start_law};
 use crate::line::Front;

@@ -3,8 +3,8 @@ use Rattle.std.specs.Prelude.{◌≡◌, ℕ, List, [], ◌∷◌, ◌++◌, len
 use Rattle.std.specs.List.{flat_map}
 use Rattle.protocol_values.specs.declared.Atom.{Atom}
 use Rattle.script_tree.specs.Processes.{Proc}
+use Rattle.journal_text.specs.Endings.{printed_text}
 use Rattle.journal_text.specs.Names.{Naming}
-use Rattle.journal_text.specs.Texts.{atom_text}
 use Rattle.thread.specs.Ends.{end_text}
 use Rattle.journal_replay.specs.Runs.{Config, EndsAs}
 use Rattle.thread.specs.declared.end.End.{End}
@@ -16,10 +16,6 @@ pub record Standing : Type 0 where
   pub thread : ℕ
   pub end : End
   pub printed : List Atom
-
--- each atom behind a space
-abbrev pub printed_text : Naming → List Atom → List ℕ
-printed_text names printed = flat_map (λ a. codes " " ++ atom_text names a) printed
 
 abbrev pub process_line : Naming → Standing → List ℕ
 process_line names p = names.thread p.thread ++ codes " " ++ end_text p.end ++ printed_text names p.printed ++ 10 ∷ []

@@ -3,26 +3,15 @@
 ghost use Rattle.std.specs.Prelude.{◌≡◌, ◌<◌, IfOk, OnOk, length, map};
 ghost use Rattle.std.specs.String.{string_bytes};
 ghost use Rattle.script.specs.Scripts.{script_of};
-ghost use Rattle.pcml_answers.specs.Standings.{TellsStandings, printed_text, process_line};
+ghost use Rattle.pcml_answers.specs.Standings.{TellsStandings, process_line};
 ghost use Rattle.journal_text.specs.Names.{named};
 ghost use Rattle.script.specs.Appending.{Adds};
 
-use journal_text::push_atom;
+use journal_text::push_printed;
 use protocol_values::Atom;
 use script::Script;
 use std::alloc::{AllocError, Global};
 use thread::End;
-
-/// Each atom behind a space.
-fn push_printed(out: &mut String, script: &Script, printed: &[Atom]) -> Result<(), AllocError>
-    ensures { OnOk result (Adds out.old out.new (printed_text (named (script_of script.now)) printed.now)) }
-{
-    for atom in printed {
-        out.push_str(" ")?;
-        push_atom(out, script, *atom)?;
-    }
-    Ok(())
-}
 
 /// Appends the name of a process.
 pub fn push_name(out: &mut String, script: &Script, thread: usize) -> Result<(), AllocError>

@@ -19,7 +19,7 @@ use Rattle.script.proofs.Declared.{declares_names}
 use Rattle.journal_text.specs.Journals.{HasAtom, HasNack}
 use Rattle.journal_text.specs.Names.{names_of, named}
 use Rattle.journal_text.specs.Texts.{atom_text, message_text, nack_text}
-use Rattle.pcml_chart_layout.specs.Feet.{printed_text}
+use Rattle.journal_text.specs.Endings.{printed_text}
 use Rattle.pcml_chart.specs.Plain.{is_plain, IsPlain, NamesArePlain, MessagesArePlain, CausesArePlain, PrintedIsPlain, OffersArePlain}
 
 plain_both : (xs ys : List ℕ) → IsPlain xs → IsPlain ys → IsPlain (xs ++ ys)

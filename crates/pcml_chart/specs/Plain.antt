@@ -12,7 +12,7 @@ use Rattle.journal_text.specs.Journals.{HasAtom, HasCause, HasMessage, HasNack}
 use Rattle.journal_text.specs.Names.{Declared, names_of, named}
 use Rattle.journal_text.specs.Texts.{cause_text, message_text}
 use Rattle.journal_text.specs.Offers.{offer_text}
-use Rattle.pcml_chart_layout.specs.Feet.{printed_text}
+use Rattle.journal_text.specs.Endings.{printed_text}
 
 -- no mark of SVG: neither `<` nor `>` nor `&`, and no quote; and none that ends or leaves a line of a Mermaid diagram: no `;`, `%` or line end
 abbrev pub is_plain : ℕ → Bool

@@ -1,10 +1,8 @@
 -- How each process stands, with what it printed or what it offers.
-use Rattle.std.specs.Prelude.{◌≡◌, ℕ, Bool, true, false, if◌then◌else◌, List, [], ◌++◌, length, codes, slice_get, Option, Some, None}
-use Rattle.std.specs.List.{flat_map}
-use Rattle.protocol_values.specs.declared.Atom.{Atom}
+use Rattle.std.specs.Prelude.{◌≡◌, ℕ, Bool, true, false, if◌then◌else◌, List, [], ◌++◌, length, slice_get, Option, Some, None}
 use Rattle.protocol_values.specs.declared.Offer.{Offer}
+use Rattle.journal_text.specs.Endings.{printed_text}
 use Rattle.journal_text.specs.Names.{Naming}
-use Rattle.journal_text.specs.Texts.{atom_text}
 use Rattle.thread.specs.Ends.{end_text, is_ended, is_waiting}
 use Rattle.journal_replay.specs.Replays.{TellsEnd, TellsOpen, TellsOutput, thread_count}
 use Rattle.journal_replay.specs.declared.state.State.{State}
@@ -25,10 +23,6 @@ pub record AreFeet (state : State) (feet : List Foot) : Type 0 where
   pub each : (t : ℕ) (f : Foot) → slice_get feet t ≡ Some f → TellsFoot state t f
 
 -- THE TEXT
-
--- each atom behind a space
-abbrev pub printed_text : Naming → List Atom → List ℕ
-printed_text names printed = flat_map (λ a. codes " " ++ atom_text names a) printed
 
 -- how the process stands, and behind it what it printed where it ended
 abbrev pub stand_text : Naming → Foot → List ℕ

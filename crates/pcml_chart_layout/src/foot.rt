@@ -3,7 +3,7 @@
 ghost use Rattle.std.specs.Prelude.{◌≡◌, ◌<◌, ◌≤◌, IfOk, OnOk, length};
 ghost use Rattle.std.specs.String.{string_bytes};
 ghost use Rattle.script.specs.Scripts.{script_of};
-ghost use Rattle.pcml_chart_layout.specs.Feet.{AreFeet, lines_below, offers_below, offers_of, printed_text, stand_text};
+ghost use Rattle.pcml_chart_layout.specs.Feet.{AreFeet, lines_below, offers_below, offers_of, stand_text};
 ghost use Rattle.pcml_chart_layout.specs.Widths.{foot_length};
 ghost use Rattle.journal_text.specs.Names.{named};
 ghost use Rattle.journal_text.specs.Offers.{offer_text};
@@ -12,7 +12,7 @@ ghost use Rattle.script.specs.Appending.{Adds};
 use crate::columns::Columns;
 use crate::seen::seen_length;
 use journal_replay::State;
-use journal_text::{push_atom, push_offer};
+use journal_text::{push_offer, push_printed};
 use protocol_values::{Atom, Offer};
 use script::Script;
 use std::alloc::{AllocError, Global};
@@ -75,17 +75,6 @@ pub(crate) fn lines_below(columns: &Columns<'_>, feet: &[Foot<'_>]) -> usize
         most = offers_below(columns, feet, thread).max(most);
     }
     most
-}
-
-/// Each atom behind a space.
-fn push_printed(out: &mut String, script: &Script, printed: &[Atom]) -> Result<(), AllocError>
-    ensures { OnOk result (Adds out.old out.new (printed_text (named (script_of script.now)) printed.now)) }
-{
-    for atom in printed {
-        out.push_str(" ")?;
-        push_atom(out, script, *atom)?;
-    }
-    Ok(())
 }
 
 /// How the process stands, and behind it what it printed where it ended.
