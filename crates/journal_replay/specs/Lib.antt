@@ -9,3 +9,4 @@ pub mod Searching
 pub mod Gathering
 pub mod Stamping
 pub mod Nexting
+pub mod Parts

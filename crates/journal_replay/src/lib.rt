@@ -11,6 +11,7 @@
 mod gathering;
 mod nexts;
 mod open_offers;
+mod part;
 mod placed;
 mod runs;
 mod search;
@@ -19,6 +20,7 @@ mod threads;
 mod waiters;
 
 pub use crate::gathering::{gather, retrace};
+pub use crate::part::takes_part;
 pub use crate::placed::is_placed;
 pub use crate::runs::{replay, replay_lawful, restamp, settle};
 pub use crate::state::{ReplayFault, State};

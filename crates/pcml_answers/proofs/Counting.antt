@@ -9,7 +9,7 @@ use Rattle.protocol_values.specs.declared.Commit.{Commit}
 use Rattle.protocol_values.specs.declared.Commit.TheVariants.{Pair, Alone}
 use Rattle.protocol_values.specs.declared.Message.TheVariants.{Empty}
 use Rattle.journal_replay.specs.Runs.{Config, IsLegal, IsRun, applied, config_from, config_of, message_by, no_results, with_result}
-use Rattle.pcml_answers.specs.Telling.{is_of}
+use Rattle.journal_replay.specs.Parts.{takes_part}
 
 -- its rows are of different threads
 abbrev IsApart : Commit → Type 0
@@ -33,7 +33,7 @@ either true false apart = refl
 either false true apart = refl
 either false false apart = refl
 
-applied-length : (config : Config) (c : Commit) (t : ℕ) → IsApart c → length (applied config c t) ≡ length (config t) + cond (is_of t c) 1 0
+applied-length : (config : Config) (c : Commit) (t : ℕ) → IsApart c → length (applied config c t) ≡ length (config t) + cond (takes_part t c) 1 0
 applied-length config (Pair sender receiver chan msg stamp) t ne =
     let s = sender.0.thread in
     let r = receiver.0.thread in
@@ -43,17 +43,17 @@ applied-length config (Pair sender receiver chan msg stamp) t ne =
     omega (arith, first, second, both)
 applied-length config (Alone at why stamp) t ne = one-length at.0.thread t (at.1, message_by why) config
 
-from-length : (config : Config) (cs : List Commit) (t : ℕ) → ((i : ℕ) (c : Commit) → slice_get cs i ≡ Some c → IsApart c) → length (config_from config cs t) ≡ length (config t) + count_by (is_of t) cs
+from-length : (config : Config) (cs : List Commit) (t : ℕ) → ((i : ℕ) (c : Commit) → slice_get cs i ≡ Some c → IsApart c) → length (config_from config cs t) ≡ length (config t) + count_by (takes_part t) cs
 from-length config [] t all = omega arith
 from-length config (c ∷ cs) t all =
     let first = applied-length config c t (all 0 c refl) in
     let rest = from-length (applied config c) cs t (λ i d is. all (suc i) d is) in
     let here : length (config_from config (c ∷ cs) t) ≡ length (config_from (applied config c) cs t) = refl in
-    let count : count_by (is_of t) (c ∷ cs) ≡ cond (is_of t c) 1 0 + count_by (is_of t) cs = sum_by-cons (λ d. cond (is_of t d) 1 0) c cs in
+    let count : count_by (takes_part t) (c ∷ cs) ≡ cond (takes_part t c) 1 0 + count_by (takes_part t) cs = sum_by-cons (λ d. cond (takes_part t d) 1 0) c cs in
     omega (arith, first, rest, here, count)
 
 -- a thread has made as many syncs as commits of the run are of it
-pub counted : (ps : List Proc) (rows : ℕ) (journal : List Commit) (t : ℕ) → IsRun ps rows journal → count_by (is_of t) journal ≡ length (config_of journal t)
+pub counted : (ps : List Proc) (rows : ℕ) (journal : List Commit) (t : ℕ) → IsRun ps rows journal → count_by (takes_part t) journal ≡ length (config_of journal t)
 counted ps rows journal t run =
     let is = from-length no_results journal t (λ i c at. apart ps rows _ c (run i c at).legal) in
     omega (arith, is)

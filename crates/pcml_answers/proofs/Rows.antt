@@ -18,7 +18,8 @@ use Rattle.thread.specs.declared.end.End.{End}
 use Rattle.thread.specs.declared.end.End.TheVariants as ends
 use Rattle.journal_replay.specs.declared.state.State.{State}
 use Rattle.pcml_answers.specs.Reasons.{IsOpen, IsReason, Needs}
-use Rattle.pcml_answers.specs.Telling.{TellsOffers, TellsRow, is_of, stopped_reason}
+use Rattle.journal_replay.specs.Parts.{takes_part}
+use Rattle.pcml_answers.specs.Telling.{TellsOffers, TellsRow, stopped_reason}
 use Rattle.pcml_answers.specs.declared.reason.Reason.{Reason}
 use Rattle.pcml_answers.specs.declared.reason.Reason.TheVariants.{Unstarted, Ended, Faulted, Spent, Sync, NoOffer, OtherOffer}
 use Rattle.pcml_answers.proofs.Counting.{counted}
@@ -114,7 +115,7 @@ module _ (s : State) (earlier : List Commit) (at : Row × ℕ) (b : Base) where
   goes-on ends.Spent e = absurd cc
 
   -- the row is not its next sync
-  pub other-row : (next : ℕ) → next ≡ count_by (is_of at.0.thread) earlier → at.0.sync ≢ next → TellsRow s earlier at b (Some (Sync at.0 next))
+  pub other-row : (next : ℕ) → next ≡ count_by (takes_part at.0.thread) earlier → at.0.sync ≢ next → TellsRow s earlier at b (Some (Sync at.0 next))
   other-row next is ne = λ ps rows c stands needs. (needs-row c at b needs, is ∙ counted ps rows earlier at.0.thread stands.run, ne)
 
   -- The row is its next sync, with these offers.
@@ -122,7 +123,7 @@ module _ (s : State) (earlier : List Commit) (at : Row × ℕ) (b : Base) where
     pub nacks : List ℕ
     pub end : TellsEnd s at.0.thread ends.Waiting
     pub opens : TellsOpen s at.0.thread os nacks
-    pub next : at.0.sync ≡ count_by (is_of at.0.thread) earlier
+    pub next : at.0.sync ≡ count_by (takes_part at.0.thread) earlier
 
   -- where its run leads: the event that it offers
   record Here (ps : List Proc) (rows : ℕ) (os : List Offer) : Type 0 where

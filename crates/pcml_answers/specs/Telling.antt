@@ -1,10 +1,9 @@
 -- What is found of a row, of a cause and of a commit where a state stands.
-use Rattle.std.specs.Prelude.{◌≡◌, ◌≢◌, ◌==◌, ◌||◌, ℕ, ◌≤◌, Bool, List, length, Option, None, Some, slice_get}
+use Rattle.std.specs.Prelude.{◌≡◌, ◌≢◌, ℕ, ◌≤◌, List, length, Option, None, Some, slice_get}
 use Rattle.script_tree.specs.Processes.{Proc}
 use Rattle.protocol_values.specs.declared.Base.{Base}
 use Rattle.protocol_values.specs.declared.Cause.TheVariants as cause
 use Rattle.protocol_values.specs.declared.Commit.{Commit}
-use Rattle.protocol_values.specs.declared.Commit.TheVariants.{Pair, Alone}
 use Rattle.protocol_values.specs.declared.NackName.{NackName}
 use Rattle.protocol_values.specs.declared.Offer.{Offer}
 use Rattle.protocol_values.specs.declared.Row.{Row}
@@ -16,11 +15,6 @@ use Rattle.journal_replay.specs.declared.state.State.{State}
 use Rattle.pcml_answers.specs.Reasons.{IsReason, Needs, StandsFor}
 use Rattle.pcml_answers.specs.declared.reason.Reason.{Reason}
 use Rattle.pcml_answers.specs.declared.reason.Reason.TheVariants.{Unstarted, Ended, Faulted, Spent, NoOffer, OtherOffer}
-
--- whether a row of the commit is of the thread
-abbrev pub is_of : ℕ → Commit → Bool
-is_of t (Pair sender receiver chan msg stamp) = (t == sender.0.thread) || (t == receiver.0.thread)
-is_of t (Alone at why stamp) = t == at.0.thread
 
 -- the reason for which a thread that stands so makes no sync
 abbrev pub stopped_reason : ℕ → End → Option Reason

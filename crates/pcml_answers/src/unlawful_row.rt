@@ -1,35 +1,22 @@
 //! Why a row cannot take what a commit needs of it.
 
 ghost use Rattle.std.specs.Prelude.{◌≡◌, ◌<◌, count_by};
+ghost use Rattle.journal_replay.specs.Parts.{takes_part};
 ghost use Rattle.journal_replay.specs.Replays.{thread_count};
-ghost use Rattle.pcml_answers.specs.Telling.{TellsOffers, TellsRow, is_of, stopped_reason};
+ghost use Rattle.pcml_answers.specs.Telling.{TellsOffers, TellsRow, stopped_reason};
 
 use crate::reason::Reason;
-use journal_replay::State;
+use journal_replay::{State, takes_part};
 use protocol_values::{Base, Commit, Offer, Row};
 use thread::End;
 
-/// Whether a row of the commit is of the thread.
-fn is_of(commit: &Commit, thread: u8) -> bool
-    ensures { result ≡ is_of thread commit.now }
-{
-    match commit {
-        Commit::Pair {
-            sender,
-            receiver,
-            ..
-        } => thread == sender.0.thread || thread == receiver.0.thread,
-        Commit::Alone { at, .. } => thread == at.0.thread,
-    }
-}
-
 /// How many of the commits are of the thread: in a run, so many syncs it has made.
 fn count_of(commits: &[Commit], thread: u8) -> usize
-    ensures { result ≡ count_by (is_of thread) commits.now }
+    ensures { result ≡ count_by (takes_part thread) commits.now }
 {
     commits
         .iter()
-        .filter(|commit| is_of(commit, thread))
+        .filter(|commit| takes_part(thread, commit))
         .count()
 }
 

@@ -7,6 +7,7 @@ use Rattle.protocol_values.specs.declared.Commit.{Commit}
 use Rattle.protocol_values.specs.declared.Commit.TheVariants.{Pair, Alone}
 use Rattle.protocol_values.specs.declared.NackName.{NackName}
 use Rattle.protocol_values.specs.Commits.{stamp_of}
+use Rattle.journal_replay.specs.Parts.{takes_part}
 use Rattle.journal_text.specs.Names.{Naming}
 use Rattle.pcml_chart_layout.specs.Labels.{label_text, spot_of}
 use Rattle.pcml_chart_layout.specs.Places.{Layout, column, height_or_top, is_own, line_of}
@@ -25,10 +26,6 @@ dashes x y other low = codes "<path class='n' d='M" ++ decimal x ++ codes " " ++
 pub record Stamps : Type 0 where
   pub fired : NackName → Option ℕ
   pub ended : ℕ → Option ℕ
-
-abbrev pub takes_part : ℕ → Commit → Bool
-takes_part t (Pair sender receiver chan msg stamp) = t == sender.0.thread || t == receiver.0.thread
-takes_part t (Alone at cause stamp) = t == at.0.thread
 
 -- the place of the commit of this stamp in which the thread takes part
 abbrev pub place_of : List Commit → ℕ → ℕ → Option ℕ

@@ -4,11 +4,11 @@ ghost use Rattle.std.specs.Prelude.{◌≡◌, ◌<◌, ◌≤◌, ◌^◌, OnOk
 ghost use Rattle.journal_replay.specs.Replays.{ended_by, fired_by};
 ghost use Rattle.pcml_chart_layout.specs.Laid.{laid};
 ghost use Rattle.pcml_chart.specs.Drawn.{stamps_of};
-ghost use Rattle.pcml_chart.specs.Marks.{arrow, beside_mark, cause_line, dashes, dashes_to, dot, end_line, figure, height_of, nack_line, place_of, takes_part};
+ghost use Rattle.pcml_chart.specs.Marks.{arrow, beside_mark, cause_line, dashes, dashes_to, dot, end_line, figure, height_of, nack_line, place_of};
 ghost use Rattle.script.specs.Appending.{Adds};
 
 use crate::text::{push_beginning, push_label, push_text_end};
-use journal_replay::State;
+use journal_replay::{State, takes_part};
 use pcml_chart_layout::{Layout, height};
 use protocol_values::{Cause, Commit, NackName};
 use std::alloc::AllocError;
@@ -33,19 +33,6 @@ fn push_dashes(out: &mut String, x: u64, y: u64, other: u64, low: u64) -> Result
     ensures { OnOk result (Adds out.old out.new (dashes x y other low)) }
 {
     write!(out, "<path class='n' d='M{x} {y}L{other} {low}'/>\n")
-}
-
-fn takes_part(thread: u8, commit: &Commit) -> bool
-    ensures { result ≡ takes_part thread commit.now }
-{
-    match commit {
-        Commit::Pair {
-            sender,
-            receiver,
-            ..
-        } => thread == sender.0.thread || thread == receiver.0.thread,
-        Commit::Alone { at, .. } => thread == at.0.thread,
-    }
 }
 
 /// The place of the commit of this stamp in which the thread takes part.
