@@ -33,7 +33,7 @@ mod reading;
 mod script;
 
 pub use fault::ScriptFault;
-pub use reading::{first_fault, parse};
+pub use reading::{first_fault, line_left, parse};
 pub use script::Script;
 
 /// No bytes spell two scripts. A script that is written is read where no fault stands in it, and else its

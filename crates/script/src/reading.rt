@@ -212,7 +212,7 @@ fn whole<'a>(alloc: Global, tokens: &'a [Placed<'a>]) -> Result<(Vec<String>, Ve
 }
 
 /// The line at which so many tokens are left.
-fn line_at(tokens: &Tokens<'_>, left: usize) -> usize
+pub fn line_left(tokens: &Tokens<'_>, left: usize) -> usize
     ensures { result ≡ line_left (seen tokens.now.placed.items) tokens.now.last_line left }
 {
     let len = tokens.placed.len();
@@ -252,7 +252,7 @@ fn read_text(alloc: Global, bytes: &[u8]) -> Result<Script, ScriptFault>
             processes,
         }),
         Err(Stop::Memory) => Err(ScriptFault::Memory),
-        Err(Stop::At(fault)) => Err(fault_at(fault.problem, line_at(&tokens, fault.left))),
+        Err(Stop::At(fault)) => Err(fault_at(fault.problem, line_left(&tokens, fault.left))),
     }
 }
 

@@ -9,8 +9,8 @@ ghost use Rattle.script.specs.Scripts.{script_at};
 ghost use Rattle.script_mistakes.specs.Short.{TellsFirst, TellsWhyShort, short_line, there_line};
 
 use crate::place::{column_at, place_left};
-use crate::telling::{TEXT_LEN, line_left, number_of, problem_words};
-use script::first_fault;
+use crate::telling::{TEXT_LEN, number_of, problem_words};
+use script::{first_fault, line_left};
 use script_reader::fault::Fault;
 use script_token::{Tokens, scan, token_starts};
 use std::alloc::{AllocError, Global};

@@ -6,7 +6,7 @@ ghost use Rattle.std.specs.Option.{option_map};
 ghost use Rattle.script_token.specs.Lexemes.{last_line, placed_tokens, seen};
 ghost use Rattle.script_reader.specs.Steps.{bare, told};
 ghost use Rattle.script.specs.Appending.{Adds};
-ghost use Rattle.script.specs.Scripts.{line_left, script_at};
+ghost use Rattle.script.specs.Scripts.{script_at};
 ghost use Rattle.script_mistakes.specs.Places.{excerpt_text, place_left};
 ghost use Rattle.script_mistakes.specs.Words.{spelling};
 ghost use Rattle.script_mistakes.specs.Telling.{HasExpected, TellsFault, TellsWhyNot, fault_line, head_text, kind_text, kinds_text, number_of, problem_words, stand_text};
@@ -16,7 +16,7 @@ use crate::kind::Kind;
 use crate::place::{column_at, place_left, push_excerpt};
 use crate::site::Site;
 use crate::trying::expected;
-use script::first_fault;
+use script::{first_fault, line_left};
 use script_reader::fault::{Fault, Problem};
 use script_token::{Placed, Symbol, Tokens, scan, token_starts};
 use std::alloc::{AllocError, Global};
@@ -52,17 +52,6 @@ pub(crate) fn problem_words(problem: Problem, left: usize) -> &'static str
         Problem::TooMany => "this is one too many",
         Problem::LoopWithoutSync => "the body of this loop does not begin with a sync",
     }
-}
-
-/// The line at which so many tokens are left.
-pub(crate) fn line_left(tokens: &Tokens<'_>, left: usize) -> usize
-    ensures { result ≡ line_left (seen tokens.now.placed.items) tokens.now.last_line left }
-{
-    let len = tokens.placed.len();
-    if left == 0 || left > len {
-        return tokens.last_line;
-    }
-    tokens.placed[len - left].line
 }
 
 /// Appends a fault with its number, its line and its column, and what it is.

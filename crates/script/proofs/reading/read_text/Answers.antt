@@ -51,9 +51,9 @@ pub returns : goal.returns
 returns c =
     let ps = c.in-Ok.tokens.placed.items in
     let read : script_at (bare ps) ≡ Err (c.in-Err-At.fault.problem, c.in-Err-At.fault.left) = ap (λ (x : List Placed). script_at (bare x)) (sym c.deref.ensures.value) ∙ (rw c.in-Err-At.field-0-is at c.in-Err-At.ensures.value) in
-    let line : c.line_at.result ≡ line_left (placed_tokens c.args.bytes.now) (last_line c.args.bytes.now) c.in-Err-At.fault.left =
-    c.line_at.ensures ∙ ap (λ (x : List (Token × ℕ)). line_left x c.in-Ok.tokens.last_line c.in-Err-At.fault.left) c.in-Ok.ensures.tokens ∙ ap (λ (n : ℕ). line_left (placed_tokens c.args.bytes.now) n c.in-Err-At.fault.left) c.in-Ok.ensures.last in
+    let line : c.line_left.result ≡ line_left (placed_tokens c.args.bytes.now) (last_line c.args.bytes.now) c.in-Err-At.fault.left =
+    c.line_left.ensures ∙ ap (λ (x : List (Token × ℕ)). line_left x c.in-Ok.tokens.last_line c.in-Err-At.fault.left) c.in-Ok.ensures.tokens ∙ ap (λ (n : ℕ). line_left (placed_tokens c.args.bytes.now) n c.in-Err-At.fault.left) c.in-Ok.ensures.last in
     record {
-      text = text_err c.args.bytes.now ps c.in-Err-At.fault.problem c.in-Err-At.fault.left c.line_at.result c.fault_at.result (omega (arith, c.if-bytes-gt-TEXT_LEN.false)) c.in-Ok.ensures.tokens read line c.fault_at.ensures;
+      text = text_err c.args.bytes.now ps c.in-Err-At.fault.problem c.in-Err-At.fault.left c.line_left.result c.fault_at.result (omega (arith, c.if-bytes-gt-TEXT_LEN.false)) c.in-Ok.ensures.tokens read line c.fault_at.ensures;
       lined = tt;
     }

@@ -1,6 +1,6 @@
 use Rattle.std.proofs.Common.{◌≡◌, ◌-◌, length, get_or, ap, ◌∙◌, arith}
 use Rattle.script.proofs.Telling.{line_left_at}
-use Rattle.script.proofs.reading.line_at.Goals as goal
+use Rattle.script.proofs.reading.line_left.Goals as goal
 
 pub returns : goal.returns
 returns c =
