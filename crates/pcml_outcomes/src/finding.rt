@@ -4,8 +4,8 @@ ghost use Rattle.std.specs.Prelude.{◌≡◌, ◌&&◌, length};
 ghost use Rattle.std.specs.List.{list_any, zip};
 ghost use Rattle.pcml_outcomes.specs.Told.{finding, has_stuck, is_clear, is_cut, is_stuck, is_whole, shown};
 
-use thread::End;
 use outcomes::{Asked, Extent, Outcome, Outcomes, Told};
+use thread::End;
 
 /// What was found of what was asked for.
 #[derive(Clone, Copy, Debug, PartialEq, Eq)]

@@ -6,7 +6,7 @@ use crate::arguments::{
     stamp_argument,
 };
 use crate::request::{
-    Drawing, Form, OfJournal, Question, Request, Running, Search, Seeking, Sought, Wanted,
+    Drawing, Form, OfJournal, OutcomesAsked, Question, Request, Running, Seeking, Sought, Wanted,
 };
 use clap::{Arg, ArgAction, ArgMatches, Command, value_parser};
 use pcml_explain::{Topic, Word};
@@ -289,7 +289,7 @@ fn seeking_request<'a>(outcomes: &ArgMatches<'a>, sought: Sought<'a>) -> Option<
 
 /// The request of `outcomes` that lists them.
 fn search_request<'a>(outcomes: &ArgMatches<'a>) -> Option<Request<'a>> {
-    Some(Request::Outcomes(Search {
+    Some(Request::Outcomes(OutcomesAsked {
         script: outcomes.get_str("file")?,
         rows: outcomes.get_one("rows"),
         limit: outcomes.get_one("limit")?,

@@ -9,6 +9,7 @@ mod words;
 
 pub use crate::fault::WordsFault;
 pub use crate::request::{
-    Drawing, Form, OfJournal, Question, Request, Running, Search, Seeking, Sought, Wanted, all_rows,
+    Drawing, Form, OfJournal, OutcomesAsked, Question, Request, Running, Seeking, Sought, Wanted,
+    all_rows,
 };
 pub use crate::words::read_words;

@@ -21,7 +21,7 @@ pub enum Wanted<'a> {
 /// end, make one outcome another, and are told. The journal that leads to one of them goes to a file, where one is
 /// named: to the one of the number `of`, from 1, and else to the first that is told.
 #[derive(Clone, Copy, Debug)]
-pub struct Search<'a> {
+pub struct OutcomesAsked<'a> {
     pub script: &'a str,
     pub rows: Option<u16>,
     pub limit: u32,
@@ -124,7 +124,7 @@ pub enum Request<'a> {
     /// Why the text in the file of this name is no script, in one line, as compilers tell it.
     WhyShort(&'a str),
     /// What a script can come to.
-    Outcomes(Search<'a>),
+    Outcomes(OutcomesAsked<'a>),
     /// What some run of it leads to.
     Seek(Seeking<'a>),
     /// What a fault or a word means, or the manual page.

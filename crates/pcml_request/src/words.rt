@@ -5,7 +5,7 @@ ghost use Rattle.pcml_request.specs.Requests.{CanBeAnswered};
 
 use crate::commands::{command_line, request_of};
 use crate::fault::WordsFault;
-use crate::request::{Drawing, OfJournal, Question, Request, Running, Search, Seeking};
+use crate::request::{Drawing, OfJournal, OutcomesAsked, Question, Request, Running, Seeking};
 use clap::error::ErrorKind;
 use clap::{ArgMatches, Error};
 use pcml_explain::explanation;
@@ -23,7 +23,7 @@ fn range_objection(asked: &Request<'_>) -> Option<&'static str>
         Request::OfJournal(OfJournal { rows, .. })
         | Request::Run(Running { rows, .. })
         | Request::Outcomes(
-            Search {
+            OutcomesAsked {
                 rows: Some(rows),
                 ..
             },
@@ -34,12 +34,13 @@ fn range_objection(asked: &Request<'_>) -> Option<&'static str>
                 ..
             },
         ) if from > to => { Some("no stamp is from the one to the other") }
-        Request::Outcomes(Search { limit: 0, .. }) | Request::Seek(Seeking { limit: 0, .. }) => {
-            Some("at least one configuration is seen")
-        }
-        Request::Outcomes(Search { limit, .. }) | Request::Seek(Seeking { limit, .. })
+        Request::Outcomes(OutcomesAsked { limit: 0, .. })
+        | Request::Seek(Seeking { limit: 0, .. }) => { Some("at least one configuration is seen") }
+        Request::Outcomes(OutcomesAsked { limit, .. }) | Request::Seek(Seeking { limit, .. })
             if *limit > 4194304 => { Some("at most 4194304 configurations are seen") }
-        Request::Outcomes(Search { of: Some(0), .. }) => Some("the outcomes are numbered from 1"),
+        Request::Outcomes(OutcomesAsked { of: Some(0), .. }) => Some(
+            "the outcomes are numbered from 1",
+        ),
         _ => None,
     }
 }
@@ -61,7 +62,7 @@ fn file_objection(asked: &Request<'_>) -> Option<&'static str> {
             },
         )
         | Request::Outcomes(
-            Search {
+            OutcomesAsked {
                 journal: Some("-"),
                 ..
             },

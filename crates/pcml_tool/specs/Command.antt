@@ -11,7 +11,7 @@ use Rattle.pcml_request.specs.declared.request.OfJournal.{OfJournal}
 use Rattle.pcml_request.specs.declared.request.Question.{Question}
 use Rattle.pcml_request.specs.declared.request.Question.TheVariants as question
 use Rattle.pcml_request.specs.declared.request.Running.{Running}
-use Rattle.pcml_request.specs.declared.request.Search.{Search}
+use Rattle.pcml_request.specs.declared.request.OutcomesAsked.{OutcomesAsked}
 use Rattle.pcml_request.specs.declared.request.Seeking.{Seeking}
 use Rattle.pcml_request.specs.declared.request.Sought.{Sought}
 use Rattle.pcml_request.specs.declared.request.Sought.TheVariants as sought
@@ -146,7 +146,7 @@ KeepsAsked Holds Keeps (Some name) (Some lines) = Keeps name lines
 KeepsAsked Holds Keeps name lines = (file bytes : List ℕ) → Keeps file bytes → Holds file bytes
 
 -- the text of outcomes that were found of a script, and the journal that is kept of it, in a file where one is named
-pub record AnswersOutcomes (Holds Keeps : Files) (search : Search) (verdict : Verdict) (text : List ℕ) : Type 0 where
+pub record AnswersOutcomes (Holds Keeps : Files) (search : OutcomesAsked) (verdict : Verdict) (text : List ℕ) : Type 0 where
   pub source : List ℕ
   pub holds : Holds search.script.now source
   pub s : Script
@@ -341,7 +341,7 @@ FailsRunning Holds asked (faults.Names fault) = OfScript Holds asked.script.now 
 FailsRunning Holds asked fault = OfScript Holds asked.script.now (λ s. FailsRun s asked.workers asked.rows asked.seasons fault)
 
 -- what a fault says of a search: that of the script, of a name, or that the journal's file was not written
-abbrev pub FailsOutcomes : Files → Search → Fault → Type 0
+abbrev pub FailsOutcomes : Files → OutcomesAsked → Fault → Type 0
 FailsOutcomes Holds search faults.Memory = ⊤
 FailsOutcomes Holds search (faults.File fault) = FailsFile search.journal fault
 FailsOutcomes Holds search (faults.Script fault) = FailsScript Holds search.script.now fault

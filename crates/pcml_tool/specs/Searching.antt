@@ -3,7 +3,7 @@ use Rattle.std.specs.Prelude.{◌||◌, Bool, not, if◌then◌else◌}
 use Rattle.std.specs.Option.{option_copied}
 use Rattle.script.specs.Sources.{Script}
 use Rattle.outcomes.specs.declared.asked.Asked.{Asked}
-use Rattle.pcml_request.specs.declared.request.Search.{Search}
+use Rattle.pcml_request.specs.declared.request.OutcomesAsked.{OutcomesAsked}
 use Rattle.pcml_outcomes.specs.declared.finding.Finding.{Finding}
 use Rattle.pcml_outcomes.specs.declared.finding.Finding.TheVariants.{Clear, Open, Stranded, Stuck}
 use Rattle.pcml_texts.specs.Searching.{IsAskedOf, MisnamesAsked}
@@ -13,11 +13,11 @@ use Rattle.pcml_tool.specs.declared.answer.Verdict.{Verdict}
 use Rattle.pcml_tool.specs.declared.answer.Verdict.TheVariants.{Denied, Done, Lacking as TheLacking}
 
 -- what a search asks for
-abbrev pub IsAskedBy : Script → Search → Asked → Type 0
+abbrev pub IsAskedBy : Script → OutcomesAsked → Asked → Type 0
 IsAskedBy s search asked = IsAskedOf s search.wanted (option_copied search.only) search.first asked
 
 -- want of memory, or the first name that no process has: of those that are needed, or else of the others
-abbrev pub FailsAsked : Script → Search → Fault → Type 0
+abbrev pub FailsAsked : Script → OutcomesAsked → Fault → Type 0
 FailsAsked s search (faults.Names fault) = MisnamesAsked s search.wanted (option_copied search.only) fault
 FailsAsked s search fault = ⊥
 

@@ -7,12 +7,12 @@ ghost use Rattle.pcml_tool.specs.Faults.{number_of, number_of_file, number_of_ru
 ghost use Rattle.pcml_tool.specs.declared.fault.Fault.TheVariants as faults;
 
 use crate::{MeetFault, PlayFault};
-use pcml_texts::ChartFault;
 use journal_text::JournalFault;
 use pcml_answers::{NamesFault, PrintsFault};
 use pcml_files::{SourceFault, Unwritten};
-use runtime_run::RunFault;
+use pcml_texts::ChartFault;
 use runtime::SeasonFault;
+use runtime_run::RunFault;
 use script::ScriptFault;
 use std::alloc::AllocError;
 use std::error::Error;

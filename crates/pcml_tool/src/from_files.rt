@@ -15,11 +15,11 @@ ghost use Rattle.pcml_files.specs.Files.{Fits};
 use crate::answer::{Advice, Answer, Verdict};
 use crate::fault::Fault;
 use crate::play_text;
+use pcml_files::{MOST_BYTES, Source};
+use pcml_request::{OfJournal, Question, all_rows};
 use pcml_texts::{
     Replayed, chart_journal, check_text, next_journal, replay_text, stats_journal, why_journal,
 };
-use pcml_files::{MOST_BYTES, Source};
-use pcml_request::{OfJournal, Question, all_rows};
 use script::{Script, parse};
 use script_mistakes::{why_not, why_short};
 use std::alloc::Global;

@@ -11,7 +11,7 @@ use crate::answer::{Answer, Verdict};
 use crate::fault::Fault;
 use crate::from_files::why_file;
 use pcml_files::Source;
-use pcml_request::{OfJournal, Request, Running, Search, Seeking, read_words};
+use pcml_request::{OfJournal, OutcomesAsked, Request, Running, Seeking, read_words};
 use std::alloc::Global;
 
 /// The files that a request reads: that of a script whose first fault it does not tell itself, and another one.
@@ -40,7 +40,7 @@ fn files_of(asked: Request<'_>) -> FilesRead<'_>
 {
     let (script, other) = match asked {
         Request::Run(Running { script, .. })
-        | Request::Outcomes(Search { script, .. })
+        | Request::Outcomes(OutcomesAsked { script, .. })
         | Request::Seek(Seeking { script, .. })
         | Request::Check(script) => (Some(script), None),
         Request::OfJournal(

@@ -8,10 +8,9 @@ ghost use Rattle.protocol_ledger.specs.Openings.{start_opening};
 ghost use Rattle.cell_table.specs.Sight.{Has};
 ghost use Rattle.pcml_tool.specs.Meet.{first_row, send_of, receive_offer, HasTakenPart, HasTwoOffers, IsReady, PrintsMeeting};
 
-use protocol_ledger::Bare;
 use cell::{Cells, NoGate, Pass};
 use journal_text::write_numbered;
-use protocol_ledger::Ledger;
+use protocol_ledger::{Bare, Ledger};
 use protocol_values::{Atom, Base, Message, Offer, Row};
 use std::alloc::{AllocError, Global};
 use std::snapshot::Snapshot;

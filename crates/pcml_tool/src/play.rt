@@ -7,7 +7,6 @@ ghost use Rattle.pcml_tool.specs.Play.{later_of, start_of, comes_from, counts_li
 ghost use Rattle.pcml_tool.specs.declared.play.PlayFault.TheVariants.{Memory};
 
 use journal_text::write_numbered;
-use protocol_ledger::Ledger;
 use protocol::{ProtoFault, World, play};
 use protocol::{ReadFault, Size, read_schedule};
 use std::alloc::{AllocError, Global};

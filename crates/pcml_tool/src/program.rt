@@ -25,18 +25,18 @@ use crate::from_files::{
 use crate::searching::{asked_of, keep_outcome};
 use crate::seeking::answer_sought;
 use crate::{RunText, explain_text, meet_text, run_parts, run_seasons_parts, version_text};
-use pcml_texts::why_standing;
-use thread::End;
 use outcomes::{Watch, has_unended};
 use pcml_answers::named_processes;
 use pcml_files::{MOST_BYTES, Source, emit};
 use pcml_outcomes::outcomes_text;
-use pcml_request::{Request, Running, Search, WordsFault, all_rows, read_words};
+use pcml_request::{OutcomesAsked, Request, Running, WordsFault, all_rows, read_words};
+use pcml_texts::why_standing;
 use script::Script;
 use std::alloc::Global;
 use std::io::Write;
 use std::sync::Wait;
 use std::thread::Threads;
+use thread::End;
 
 const DONE: u8 = 0;
 
@@ -192,7 +192,7 @@ fn rows_of(rows: Option<u16>) -> Option<u32>
 /// What is answered of all that a script can come to; the journal of an outcome is kept, where that is asked for.
 fn answer_search<S: Source, W: Watch>(
     alloc: Global,
-    search: Search<'_>,
+    search: OutcomesAsked<'_>,
     source: &mut S,
     watch: &mut W,
 ) -> Result<Answer, Fault>

@@ -18,17 +18,17 @@ ghost use Rattle.pcml_tool.specs.Run.{tail_line, TellsFreelyOf, TellsRecord, Tel
 ghost use Rattle.pcml_answers.specs.Standings.{TellsStandings};
 
 use journal::Record;
-use thread::End;
 use journal_replay::State;
 use journal_text::write_journal;
 use pcml_answers::standing_lines;
 use protocol_values::Commit;
-use runtime_run::{OpenGate, RunFault, run};
 use runtime::{SeasonFault, run_seasons};
+use runtime_run::{OpenGate, RunFault, run};
 use script::Script;
 use std::alloc::{AllocError, Global};
 use std::sync::Wait;
 use std::thread::Threads;
+use thread::End;
 
 fn tail_line(alloc: Global, commits: usize, tail: usize) -> Result<String, AllocError>
     ensures { IfOk result (λ line. string_bytes line ≡ tail_line commits tail) }

@@ -13,7 +13,7 @@ use crate::fault::Fault;
 use outcomes::Asked;
 use pcml_files::Source;
 use pcml_outcomes::{Finding, OutcomesText};
-use pcml_request::Search;
+use pcml_request::OutcomesAsked;
 use script::Script;
 use std::alloc::Global;
 
@@ -27,7 +27,11 @@ const CUT_STATES: &str =
 
 /// What a search asks for. Of the names of the processes that have to end, and then of those that are named alone, the
 /// first that no process has is a fault.
-pub(crate) fn asked_of(alloc: Global, script: &Script, search: &Search<'_>) -> Result<Asked, Fault>
+pub(crate) fn asked_of(
+    alloc: Global,
+    script: &Script,
+    search: &OutcomesAsked<'_>,
+) -> Result<Asked, Fault>
     ensures asked { IfOk result (IsAskedBy (script_of script.now) search.now) }
     ensures needed { IfOk result NamesNeeded }
     ensures marks { IfOk result (λ asked. length asked.named.items ≡ length (script_of script.now).processes) }
@@ -72,7 +76,7 @@ fn unlooked(is_unlooked: bool, verdict: Verdict, limit: u32) -> Option<u32> {
 pub(crate) fn keep_outcome<S: Source>(
     source: &mut S,
     listed: OutcomesText,
-    search: &Search<'_>,
+    search: &OutcomesAsked<'_>,
 ) -> Result<Answer, Fault>
     ensures kept { OnOk result (KeepsAsked (S.holds source.old) (S.holds source.new) (option_copied search.now.journal) (bytes_of listed.journal)) }
     ensures verdict { IfOk result (λ answer. answer.verdict ≡ verdict_of listed.finding (is_some search.now.of) (is_some (bytes_of listed.journal))) }

@@ -16,7 +16,6 @@ ghost use Rattle.runtime.specs.declared.seasons.SeasonFault.TheVariants.{Workers
 
 use crate::season::{AtEnd, Next, first_season, follow, play_season};
 use cell::StepGate;
-use thread::End;
 use journal::{Record, conclude_run, retrace_run};
 use protocol_values::Commit;
 use runtime_run::{TurnsOnly, rows_used};
@@ -26,6 +25,7 @@ use std::alloc::{AllocError, Global};
 use std::sync::Wait;
 use std::thread::Threads;
 use thiserror::Error;
+use thread::End;
 
 /// Why a run in seasons gave no answer. After a fault nothing of the run is kept, and no worker runs on.
 #[derive(Clone, Copy, Debug, PartialEq, Eq, Error)]

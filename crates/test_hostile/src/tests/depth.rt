@@ -1,6 +1,5 @@
 //! The deepest scripts, on little stack.
 
-use thread::End;
 use protocol_values::Atom;
 use runtime_run::{OpenGate, RunFault, run};
 use script::{ScriptFault, parse};
@@ -10,6 +9,7 @@ use std::sync::Wait;
 use std::test::Fail;
 use std::thread;
 use std::thread::{Builder, Threads};
+use thread::End;
 
 /// The bytes of stack that are enough for all that is done with a script, whichever compiler made the program.
 /// Workers get half as many, and run it on them.

@@ -1,8 +1,8 @@
 //! Journals that are kept on the disk: links, and what nobody may lose by them.
 
 use crate::tests::check_same;
-use pcml_files::SystemFiles;
 use outcomes::Unwatched;
+use pcml_files::SystemFiles;
 use pcml_tool::command;
 use std::io::ErrorKind;
 use std::os::unix::fs::{PermissionsExt, symlink};

@@ -1,8 +1,8 @@
 //! Outputs that take little, fail or are interrupted.
 
 use crate::tests::{LINES, SERVER, check_same};
-use pcml_files::{Source, SourceFault};
 use outcomes::Unwatched;
+use pcml_files::{Source, SourceFault};
 use pcml_tool::command;
 use std::alloc::{AllocError, Global};
 use std::io;

@@ -3,8 +3,8 @@
 ghost use Rattle.std.specs.Prelude.{◌≤◌, length};
 
 use crate::tests::{SERVER, check_same};
-use pcml_files::{Source, SourceFault, SystemFiles};
 use outcomes::Unwatched;
+use pcml_files::{Source, SourceFault, SystemFiles};
 use pcml_tool::command;
 use std::alloc::{AllocError, Allocator, Global};
 use std::fs::{Files, Metadata, OpenFile, OpenOptions};

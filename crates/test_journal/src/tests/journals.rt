@@ -4,15 +4,15 @@ ghost use Rattle.std.specs.Prelude.{◌≤◌};
 
 use super::{INDEPENDENT, ONE_SEND, check_same};
 use journal::{Record, complete, received_from};
-use thread::End;
 use journal_replay::ReplayFault;
-use protocol_ledger::Ledger;
 use protocol::{World, play};
+use protocol_ledger::Ledger;
 use protocol_values::{Atom, Commit, Message, Row, Seat, Step};
 use script::parse;
 use std::alloc::Global;
 use std::process::Abort;
 use std::test::Fail;
+use thread::End;
 
 /// Process a sends 43 to b.
 const OTHER_SEND: &str =

@@ -3,13 +3,13 @@
 ghost use Rattle.std.specs.Prelude.{◌≤◌};
 
 use super::{ONE_SEND, SERVER, check_same};
-use thread::End;
 use journal_replay::{ReplayFault, State, is_placed, replay, settle};
 use protocol_values::{Atom, Cause, Commit, Message, NackName, Row};
 use script::parse;
 use std::alloc::Global;
 use std::process::Abort;
 use std::test::Fail;
+use thread::End;
 
 /// Two nacks, of which the outer one encloses what is chosen.
 const NESTED: &str =

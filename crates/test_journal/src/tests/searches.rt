@@ -4,7 +4,6 @@ ghost use Rattle.std.specs.Prelude.{◌≤◌};
 ghost use Rattle.protocol_values.specs.Commits.{most_rows};
 
 use super::check_same;
-use thread::End;
 use journal_replay::replay;
 use outcomes::{Asked, Extent, Outcomes, Told, Unwatched, find_outcomes};
 use protocol_values::{Atom, Commit, Message, Row};
@@ -13,6 +12,7 @@ use script::parse;
 use std::alloc::Global;
 use std::process::Abort;
 use std::test::Fail;
+use thread::End;
 
 /// Two send, and one receives once.
 const EITHER: &str =
