@@ -1,13 +1,12 @@
 //! How each process stands, with what it printed or what it offers.
 
-ghost use Rattle.std.specs.Prelude.{◌≡◌, ◌<◌, ◌≤◌, IfOk, OnOk, length};
+ghost use Rattle.std.specs.Prelude.{◌≡◌, ◌<◌, ◌≤◌, IfOk, length};
 ghost use Rattle.std.specs.String.{string_bytes};
 ghost use Rattle.script.specs.Scripts.{script_of};
 ghost use Rattle.pcml_chart_layout.specs.Feet.{AreFeet, lines_below, offers_below, offers_of, stand_text};
 ghost use Rattle.pcml_chart_layout.specs.Widths.{foot_length};
 ghost use Rattle.journal_text.specs.Names.{named};
 ghost use Rattle.journal_text.specs.Offers.{offer_text};
-ghost use Rattle.script.specs.Appending.{Adds};
 
 use crate::columns::Columns;
 use crate::seen::seen_length;
