@@ -6,8 +6,8 @@ mod whole;
 
 use crate::progress::Progress;
 use crate::whole::tell_whole;
-use pcml_tool::{BAD_WORDS, Fault, command, tell};
 use pcml_files::SystemFiles;
+use pcml_tool::{BAD_WORDS, Fault, command, tell};
 use std::alloc::{AllocError, Global};
 use std::io::{ErrorKind, IsTerminal, Write};
 use std::process::ExitCode;

@@ -1,7 +1,7 @@
 //! What a person at a terminal is told behind a fault: why a file cannot be read, or what is wrong with a script.
 
-use pcml_tool::{FilesRead, files_read, first_fault};
 use pcml_files::{Source, SystemFiles};
+use pcml_tool::{FilesRead, files_read, first_fault};
 use std::fs::{self, Files};
 use std::io::{self, Read, Write};
 

@@ -7,8 +7,8 @@ ghost use Rattle.pcml_tool.specs.Play.{later_of, start_of, comes_from, counts_li
 ghost use Rattle.pcml_tool.specs.declared.play.PlayFault.TheVariants.{Memory};
 
 use journal_text::write_numbered;
-use protocol::{ProtoFault, World, play};
-use protocol::{ReadFault, Size, read_schedule};
+use protocol::{ProtoFault, ReadFault, Size, World, play, read_schedule};
+use protocol_ledger::Ledger;
 use std::alloc::{AllocError, Global};
 use thiserror::Error;
 

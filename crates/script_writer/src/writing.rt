@@ -12,8 +12,8 @@ ghost use Rattle.script.specs.Appending.{Adds};
 
 use crate::names::Source;
 use crate::process::put_block;
-use script_tree::Proc;
 use script::Script;
+use script_tree::Proc;
 use std::alloc::{AllocError, Global};
 
 fn put_channels(out: &mut String, script: &Script) -> Result<(), AllocError>

@@ -1,7 +1,7 @@
-use pcml_tool::{Fault, MeetFault, command, play_laws};
-use pcml_files::{Source, SourceFault};
 use outcomes::Unwatched;
+use pcml_files::{Source, SourceFault};
 use pcml_texts::replay_laws;
+use pcml_tool::{Fault, MeetFault, command, play_laws};
 use std::alloc::{AllocError, Global};
 use std::fmt::Debug;
 use std::io;

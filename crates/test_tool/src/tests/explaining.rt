@@ -2,11 +2,11 @@
 
 use super::{Outcome, check_same, run};
 use journal_text::JournalFault;
+use pcml_files::SourceFault;
 use pcml_texts::ChartFault;
 use pcml_tool::{Fault, MeetFault, PlayFault};
-use pcml_files::SourceFault;
-use runtime_run::RunFault;
 use runtime::SeasonFault;
+use runtime_run::RunFault;
 use script::ScriptFault;
 use std::process::Abort;
 use std::sync::Wait;
