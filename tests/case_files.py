@@ -3,7 +3,7 @@
 import pathlib
 import re
 
-STATUSES = {"prints": 0, "unlawful": 1, "fails": 1, "lacks": 3}
+STATUSES = {"prints": 0, "unlawful": 1, "fails": 1, "explains": 1, "lacks": 3}
 KEPT = "kept"
 CUT = "cut"
 # With how many workers `@runs` plays a script, and the number of calls that each of these makes.
@@ -37,6 +37,10 @@ def blocks_of(text):
 
 def last_line(text):
     return text.removesuffix(b"\n").rsplit(b"\n", 1)[-1].decode(errors="replace")
+
+
+def first_line(text):
+    return text.partition(b"\n")[0] + b"\n" if b"\n" in text else text
 
 
 def listing(text):
@@ -118,7 +122,9 @@ class Player:
         if kind == "tells":
             is_last = last_line(answer.out).startswith("outcomes ")
             return answer.status == 0 and is_last and listing((answer.out + answer.err).decode()) == listing(body)
-        streams = (b"", body.encode()) if kind == "fails" else (body.encode(), b"")
+        if kind == "fails":
+            return (answer.status, answer.out, first_line(answer.err)) == (1, b"", body.encode())
+        streams = (b"", body.encode()) if kind == "explains" else (body.encode(), b"")
         return (answer.status, answer.out, answer.err) == (STATUSES[kind], *streams)
 
     def play_call(self, kind, words, bodies, block, times):
@@ -151,7 +157,7 @@ class Player:
         """A call over each of the texts, which stand with the places at which they were damaged."""
         calls = [self.call(words, **{name: text}) for _, text in texts]
         for (place, _), answer in zip(texts, self.ask(calls)):
-            found = last_line(answer.out or answer.err)
+            found = last_line(answer.out or first_line(answer.err))
             if found not in allowed(body, place):
                 self.note(block, f"damaged at {place} it came to {found}")
                 return

@@ -2,12 +2,10 @@
 #![tactic(auto)]
 
 mod progress;
-mod whole;
 
 use crate::progress::Progress;
-use crate::whole::tell_whole;
-use pcml_files::SystemFiles;
 use pcml_tool::{BAD_WORDS, Fault, command, tell};
+use pcml_files::SystemFiles;
 use std::alloc::{AllocError, Global};
 use std::io::{ErrorKind, IsTerminal, Write};
 use std::process::ExitCode;
@@ -19,9 +17,6 @@ use std::{env, io, thread};
 
 /// The bytes of stack for which a script may be as deep as its limit lets it.
 const STACK: usize = 1 << 20;
-
-/// The status after a fault, and after some other answers.
-const FAULT: u8 = 1;
 
 /// So many bytes of memory that no limit on them is near.
 const AMPLE: usize = 64 << 20;
@@ -36,7 +31,6 @@ fn run<
     let words: Vec<&str> = words.iter().map(|word| word.as_str()).collect(rt.alloc())?;
     let mut files = SystemFiles::new(rt);
     let mut out = io::writer(rt);
-    let is_seen = person.is_some();
     let mut watch = Progress::new(rt, person);
     let status = command(
         rt,
@@ -47,9 +41,6 @@ fn run<
         err,
         &mut watch,
     );
-    if is_seen && status == FAULT {
-        tell_whole(rt, &words, &mut files, err);
-    }
     Ok(status)
 }
 

@@ -10,13 +10,18 @@ const LOOKS: u32 = 1024;
 /// The bytes of which a person is told how many states they have room for.
 const GIGABYTE: usize = 1_000_000_000;
 
-/// Tells a person at a terminal what a state takes, and once a second how far a search is. Without a stream nothing is told.
+/// What takes a terminal to the beginning of its line, and clears it.
+const CLEARED: &str = "\r\x1b[K";
+
+/// Tells a person at a terminal what a state takes, and once a second how far a search is, in one line that changes.
+/// Without a stream nothing is told.
 #[derive(Drop)]
 pub(crate) struct Progress<'a, R: Clock, E: Write> {
     clock: &'a R,
     err: Option<E>,
     looks: u32,
     told: Option<Instant>,
+    is_shown: bool,
 }
 
 impl<'a, R: Clock, E: Write> Progress<'a, R, E> {
@@ -26,6 +31,7 @@ impl<'a, R: Clock, E: Write> Progress<'a, R, E> {
             err,
             looks: 0,
             told: None,
+            is_shown: false,
         }
     }
 
@@ -66,7 +72,16 @@ impl<'a, R: Clock, E: Write> Watch for Progress<'a, R, E> {
             return;
         }
         if let Some(err) = &mut self.err {
-            let _ = writeln!(err, "{seen} states seen, {open} open");
+            let _ = write!(err, "{CLEARED}{seen} states seen, {open} open");
+            let _ = err.flush();
+            self.is_shown = true;
+        }
+    }
+
+    fn end(&mut self) {
+        if let (Some(err), true) = (&mut self.err, self.is_shown) {
+            let _ = write!(err, "{CLEARED}");
+            self.is_shown = false;
         }
     }
 }

@@ -45,6 +45,12 @@ pub trait Source {
         ensures fault { IfErr result (λ fault. fault ≢ Unwritten) }
         ensures kept { (name bytes : List ℕ) → holds self.new name bytes → holds self.old name bytes };
 
+    /// Whether the file can be read again: a pipe cannot, and might keep whoever opens it waiting. Where it cannot be
+    /// read at all, the reason, for a person. A source that knows none says that it can.
+    fn can_be_read_again(&self, _name: &str) -> Result<bool, Error> {
+        Ok(true)
+    }
+
     /// Makes the bytes the whole file of this name, in the place of what it held. Where that fails, each
     /// file holds what it held. A source that keeps no files refuses.
     fn store(&mut self, _name: &str, _text: &[u8]) -> Result<(), SourceFault>

@@ -7,7 +7,7 @@ use crate::place::{Identity, Place, place_of, unwritten};
 use crate::source::{Source, SourceFault, read_beginning};
 use std::alloc::AllocError;
 use std::fs::{Files, Metadata, OpenFile, OpenOptions, Permissions};
-use std::io::{ErrorKind, Write};
+use std::io::{ErrorKind, Read, Write};
 use std::os::unix::fs::{MetadataExt, OpenOptionsExt, PermissionsExt, chown};
 use std::{fs, io};
 
@@ -144,6 +144,20 @@ impl<R: Files + Input + AllocGlobal> Source for SystemFiles<'_, R> {
             return Err(SourceFault::Memory);
         }
         read_beginning(alloc, file)
+    }
+
+    fn can_be_read_again(&self, name: &str) -> io::Result<bool> {
+        if name == STANDARD_INPUT {
+            return Ok(false);
+        }
+        let found = fs::metadata(self.rt, name)?;
+        if !found.is_file() && !found.is_dir() {
+            return Ok(false);
+        }
+        let mut file = fs::open(self.rt, name)?;
+        let mut byte = [0u8; 1];
+        file.read(&mut byte)?;
+        Ok(true)
     }
 
     /// The bytes go into a new file beside it, which takes the name at the end, and is removed where that

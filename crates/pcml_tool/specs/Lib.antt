@@ -5,5 +5,4 @@ pub mod Faults
 pub mod Command
 pub mod Version
 pub mod Searching
-pub mod Looking
 pub mod Seasons

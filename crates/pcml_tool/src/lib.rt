@@ -5,10 +5,10 @@
 #![tactic(auto)]
 
 mod answer;
+mod behind;
 mod explain;
 mod fault;
 mod from_files;
-mod looking;
 mod meeting;
 mod play;
 mod program;
@@ -19,7 +19,6 @@ mod version;
 
 pub use crate::explain::explain_text;
 pub use crate::fault::Fault;
-pub use crate::looking::{FilesRead, files_read, first_fault};
 pub use crate::meeting::{MeetFault, meet_text};
 pub use crate::play::{PlayFault, play_laws, play_text};
 pub use crate::program::{BAD_WORDS, command, tell};

@@ -18,6 +18,7 @@ ghost use Rattle.pcml_tool.specs.Faults.{status_of};
 ghost use Rattle.pcml_tool.specs.Run.{TellsAsked};
 
 use crate::answer::{Advice, Answer, Verdict};
+use crate::behind::{FilesRead, is_of_reading, tell_behind};
 use crate::fault::Fault;
 use crate::from_files::{
     answer_journal, check_file, play_file, read_script, read_source, why_file, why_short_file,
@@ -205,6 +206,7 @@ fn answer_search<S: Source, W: Watch>(
     let rows = rows_of(search.rows);
     let limit = search.limit as usize;
     let listed = outcomes_text(alloc, &script, rows, limit, &asked, search.of, watch)?;
+    watch.end();
     let answer = keep_outcome(source, listed, &search)?;
     Ok(answer)
 }
@@ -288,7 +290,7 @@ fn respond<R: Threads + Wait + Sync, S: Source, O: Write, E: Write, W: Watch>(
 /// fault, for a journal that is no run, where it is told why a text is no script, or where what was asked of a script's
 /// outcomes is not so or not known, 2 after words that are not understood, after a name that no process has and after a
 /// wish for help, or 3 where a process that had to end has not, or does not in some outcome, or is left behind, or one has faulted. A fault is
-/// a line on the error stream; whether that stream takes it changes nothing. Who watches is told how far a search is.
+/// a line on the error stream, behind which stands what is wrong with a file; whether that stream takes it changes nothing. Who watches is told how far a search is.
 pub fn command<R: Threads + Wait + Sync, S: Source, O: Write, E: Write, W: Watch>(
     rt: &R,
     alloc: Global,
@@ -317,13 +319,33 @@ pub fn command<R: Threads + Wait + Sync, S: Source, O: Write, E: Write, W: Watch
             return BAD_WORDS;
         }
     };
+    let files = FilesRead::of(&asked);
     match respond(rt, alloc, asked, source, out, err, watch) {
         Ok(Verdict::Done) => DONE,
         Ok(Verdict::Unlawful) => UNLAWFUL,
         Ok(Verdict::Denied) => DENIED,
         Ok(Verdict::Lacking) => LACKING,
-        Err(fault) => tell(err, fault),
+        Err(fault) if is_of_reading(&fault) => tell_whole(alloc, source, files, err, fault),
+        Err(fault) => {
+            watch.end();
+            tell(err, fault)
+        }
     }
+}
+
+/// Tells a fault of reading these files, and behind its line what is wrong with them. It answers the fault's status.
+fn tell_whole<S: Source, E: Write>(
+    alloc: Global,
+    source: &mut S,
+    files: FilesRead<'_>,
+    err: &mut E,
+    fault: Fault,
+) -> u8
+    ensures { result ≡ status_of fault }
+{
+    let _ = writeln!(err, "{fault}");
+    tell_behind(alloc, source, files, &fault, err);
+    fault.status()
 }
 
 /// Tells the fault on a line of its own, and answers its status.

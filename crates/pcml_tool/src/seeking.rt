@@ -102,6 +102,7 @@ pub(crate) fn answer_sought<S: Source, W: Watch>(
 {
     let script = read_script(alloc, source, seeking.script)?;
     let told = told_of(alloc, &script, &seeking, watch)?;
+    watch.end();
     let answer = keep_sought(source, told, &seeking)?;
     Ok(answer)
 }

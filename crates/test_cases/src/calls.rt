@@ -13,6 +13,14 @@ pub(crate) fn last_line(text: &[u8]) -> &str {
     }
 }
 
+/// The first line of a text, with its end.
+fn first_line(text: &[u8]) -> &[u8] {
+    match text.iter().position(|byte| *byte == b'\n') {
+        Some(at) => &text[..=at],
+        None => text,
+    }
+}
+
 /// What a call came to.
 #[derive(Drop)]
 pub(crate) struct Outcome {
@@ -25,7 +33,10 @@ pub(crate) struct Outcome {
 #[derive(Clone, Copy)]
 pub(crate) enum Wanted {
     Prints,
+    /// On the error stream begins what is told with this line.
     Fails,
+    /// This is all that is told there.
+    Explains,
     /// A process has not ended that had to.
     Lacks,
     /// A journal that is no run.
@@ -105,7 +116,12 @@ impl Outcome {
             Wanted::Prints => (0, text, ""),
             Wanted::Unlawful => (1, text, ""),
             Wanted::Lacks => (3, text, ""),
-            Wanted::Fails => (1, "", text),
+            Wanted::Fails => {
+                return self.status == 1
+                    && self.out.is_empty()
+                    && first_line(self.err.as_slice()) == text.as_bytes();
+            }
+            Wanted::Explains => (1, "", text),
             Wanted::Refuses => {
                 let err = str::from_utf8(self.err.as_slice()).unwrap_or("");
                 return self.status == 2
@@ -127,10 +143,10 @@ impl Outcome {
             && self.err.as_slice() == err.as_bytes()
     }
 
-    /// The last line that it printed, or told where it printed nothing.
+    /// The last line that it printed, or where it printed nothing the first that it told.
     pub(crate) fn last_line(&self) -> &str {
         if self.out.is_empty() {
-            last_line(self.err.as_slice())
+            last_line(first_line(self.err.as_slice()))
         } else {
             last_line(self.out.as_slice())
         }

@@ -295,6 +295,7 @@ impl<'a, R: AllocGlobal + Files + Input + Threads + Wait + Sync> Player<'a, R> {
             ["unlawful", call @ ..] => self.check(call, Wanted::Unlawful, block, others),
             ["lacks", call @ ..] => self.check(call, Wanted::Lacks, block, others),
             ["fails", call @ ..] => self.check(call, Wanted::Fails, block, others),
+            ["explains", call @ ..] => self.check(call, Wanted::Explains, block, others),
             ["refuses", call @ ..] => self.check(call, Wanted::Refuses, block, others),
             ["warns", status, call @ ..] => self.check_warning(status, call, block, others),
             ["runs", script, more @ ..] => {

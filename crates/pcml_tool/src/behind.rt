@@ -1,0 +1,110 @@
+//! What is told behind a fault: why a file cannot be read, or what is wrong with a script.
+
+ghost use Rattle.std.specs.Prelude.{◌≢◌, IsTrue};
+ghost use Rattle.pcml_files.specs.declared.source.SourceFault.TheVariants as files;
+ghost use Rattle.pcml_tool.specs.declared.fault.Fault.TheVariants as faults;
+
+use crate::fault::Fault;
+use pcml_files::{MOST_BYTES, Source, SourceFault};
+use pcml_request::{OfJournal, OutcomesAsked, Request, Running, Seeking};
+use script_mistakes::why_not;
+use std::alloc::Global;
+use std::io::Write;
+
+/// The files that a request reads: that of a script whose first fault it does not tell itself, and another one.
+#[derive(Clone, Copy)]
+pub(crate) struct FilesRead<'a> {
+    script: Option<&'a str>,
+    other: Option<&'a str>,
+}
+
+impl<'a> FilesRead<'a> {
+    /// The files that the request reads.
+    pub(crate) fn of(asked: &Request<'a>) -> FilesRead<'a> {
+        let (script, other) = match asked {
+            Request::Run(Running { script, .. })
+            | Request::Outcomes(OutcomesAsked { script, .. })
+            | Request::Seek(Seeking { script, .. })
+            | Request::Check(script) => (Some(*script), None),
+            Request::OfJournal(
+                OfJournal {
+                    script,
+                    journal,
+                    ..
+                },
+            ) => (Some(*script), Some(*journal)),
+            Request::Play(file) | Request::WhyScript(file) | Request::WhyShort(file) => {
+                (None, Some(*file))
+            }
+            Request::Meet(_) | Request::Explain(_) | Request::Version => (None, None),
+        };
+        FilesRead { script, other }
+    }
+}
+
+/// Whether something can be told behind the fault: nothing was written then.
+pub(crate) fn is_of_reading(fault: &Fault) -> bool
+    ensures { IsTrue result → fault.now ≢ faults.File files.Unwritten }
+{
+    match fault {
+        Fault::File(SourceFault::Unread) | Fault::TooLarge | Fault::Script(_) => true,
+        _ => false,
+    }
+}
+
+/// Whether the file can be read again. Where it cannot be read at all, the reason is told.
+fn tell_unread<S: Source, E: Write>(source: &S, name: &str, err: &mut E) -> bool {
+    match source.can_be_read_again(name) {
+        Ok(again) => again,
+        Err(error) => {
+            let _ = writeln!(err, "cannot read {name}: {error}");
+            false
+        }
+    }
+}
+
+/// Whether the text in the file begins as a journal does, and so is no script.
+fn begins_as_journal(text: &[u8]) -> bool {
+    matches!(text.first(), Some(b'0'..=b'9'))
+}
+
+/// Tells what `why FILE` tells of the text in the file, where that is no script.
+fn tell_script<S: Source, E: Write>(
+    alloc: Global,
+    source: &mut S,
+    name: &str,
+    is_first: bool,
+    err: &mut E,
+) {
+    let Ok(text) = source.read(name) else { return };
+    let Ok(Some(told)) = why_not(alloc, &text) else { return };
+    let _ = err.write_all(&told);
+    if is_first && begins_as_journal(&text) {
+        let _ = writeln!(
+            err,
+            "help: {name} begins as a journal does, and the script is named first"
+        );
+    }
+}
+
+/// Tells what stands behind a fault of reading these files. Whether the stream takes it changes nothing.
+pub(crate) fn tell_behind<S: Source, E: Write>(
+    alloc: Global,
+    source: &mut S,
+    files: FilesRead<'_>,
+    fault: &Fault,
+    err: &mut E,
+) {
+    if let (Fault::TooLarge, Some(name)) = (fault, files.other) {
+        let _ = writeln!(err, "{name} has more than {MOST_BYTES} bytes");
+        return;
+    }
+    if let Some(name) = files.other {
+        tell_unread(source, name, err);
+    }
+    if let Some(name) = files.script {
+        if tell_unread(source, name, err) {
+            tell_script(alloc, source, name, files.other.is_some(), err);
+        }
+    }
+}
