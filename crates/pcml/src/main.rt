@@ -4,8 +4,8 @@
 mod progress;
 
 use crate::progress::Progress;
-use pcml_tool::{BAD_WORDS, Fault, command, tell};
 use pcml_files::SystemFiles;
+use pcml_tool::{BAD_WORDS, Fault, command, tell};
 use std::alloc::{AllocError, Global};
 use std::io::{ErrorKind, IsTerminal, Write};
 use std::process::ExitCode;

@@ -34,7 +34,10 @@ fn run_command<'a>(alloc: Global) -> Result<Command<'a>, AllocError> {
         workers,
         rows_argument(alloc),
         seasons_argument(alloc),
-        kept_argument(alloc, "Writes the journal to a file too"),
+        kept_argument(
+            alloc,
+            "Writes the journal to a file too; with - it alone is printed"
+        ),
         flag_argument(alloc, "quiet", "Prints no journal"),
         flag_argument(
             alloc,
@@ -51,14 +54,27 @@ fn run_command<'a>(alloc: Global) -> Result<Command<'a>, AllocError> {
         .args(arguments)
 }
 
+/// The name of the standard streams where a file may be named.
+pub(crate) const STREAM: &str = "-";
+
+/// The file in which the words keep a journal, and whether it goes to the standard output alone.
+fn kept_by<'a>(words: &ArgMatches<'a>) -> (Option<&'a str>, bool) {
+    match words.get_str("journal") {
+        Some(STREAM) => (None, true),
+        journal => (journal, false),
+    }
+}
+
 /// The request of `run`, by the words behind it.
 fn run_request<'a>(run: &ArgMatches<'a>) -> Option<Request<'a>> {
+    let (journal, alone) = kept_by(run);
     Some(Request::Run(Running {
         script: run.get_str("file")?,
         workers: run.get_one("workers")?,
         rows: run.get_one("rows")?,
         seasons: run.get_one("seasons"),
-        journal: run.get_str("journal"),
+        journal,
+        alone,
         quiet: run.get_flag("quiet"),
         why: run.get_flag("why"),
         need: run.get_str("need"),
@@ -101,7 +117,7 @@ fn why_command<'a>(alloc: Global) -> Result<Command<'a>, AllocError> {
 fn of_journal<'a>(words: &ArgMatches<'a>, question: Question<'a>) -> Option<Request<'a>> {
     Some(Request::OfJournal(OfJournal {
         script: words.get_str("file")?,
-        journal: words.get_str("journal")?,
+        journal: words.get_str("journal"),
         rows: words.get_one("rows")?,
         seasons: words.get_one("seasons"),
         question,
@@ -247,7 +263,10 @@ fn outcomes_command<'a>(alloc: Global) -> Result<Command<'a>, AllocError> {
             "Processes that are told, with commas between, or all: the others make no other outcome"
         ),
         flag_argument(alloc, "first", "Stops at the first outcome that is printed"),
-        kept_argument(alloc, "Writes a journal that leads to an outcome to a file"),
+        kept_argument(
+            alloc,
+            "Writes a journal that leads to an outcome to a file; with - it alone is printed"
+        ),
         of_argument(alloc)?,
     ]?;
     Command::new(alloc, "outcomes")
@@ -279,16 +298,19 @@ fn sought_of<'a>(
 
 /// The request of `outcomes` that seeks this.
 fn seeking_request<'a>(outcomes: &ArgMatches<'a>, sought: Sought<'a>) -> Option<Request<'a>> {
+    let (journal, alone) = kept_by(outcomes);
     Some(Request::Seek(Seeking {
         script: outcomes.get_str("file")?,
         limit: outcomes.get_one("limit")?,
         sought,
-        journal: outcomes.get_str("journal"),
+        journal,
+        alone,
     }))
 }
 
 /// The request of `outcomes` that lists them.
 fn search_request<'a>(outcomes: &ArgMatches<'a>) -> Option<Request<'a>> {
+    let (journal, alone) = kept_by(outcomes);
     Some(Request::Outcomes(OutcomesAsked {
         script: outcomes.get_str("file")?,
         rows: outcomes.get_one("rows"),
@@ -296,7 +318,8 @@ fn search_request<'a>(outcomes: &ArgMatches<'a>) -> Option<Request<'a>> {
         wanted: wanted_of(outcomes),
         only: outcomes.get_str("only"),
         first: outcomes.get_flag("first"),
-        journal: outcomes.get_str("journal"),
+        journal,
+        alone,
         of: outcomes.get_one("of"),
     }))
 }
@@ -314,7 +337,12 @@ fn outcomes_request<'a>(
 
 fn next_command<'a>(alloc: Global) -> Result<Command<'a>, AllocError> {
     let file = file_argument(alloc, "file", "FILE", "The script");
-    let journal = file_argument(alloc, "journal", "JOURNAL", "The journal");
+    let journal = optional_file_argument(
+        alloc,
+        "journal",
+        "JOURNAL",
+        "The journal: without it, one without commits",
+    );
     let arguments = vec![in alloc; file, journal, rows_argument(alloc)]?;
     Command::new(alloc, "next")
         .about("Tells which commits may come next")
@@ -325,7 +353,7 @@ fn next_command<'a>(alloc: Global) -> Result<Command<'a>, AllocError> {
 fn next_request<'a>(next: &ArgMatches<'a>) -> Option<Request<'a>> {
     Some(Request::OfJournal(OfJournal {
         script: next.get_str("file")?,
-        journal: next.get_str("journal")?,
+        journal: next.get_str("journal"),
         rows: next.get_one("rows")?,
         seasons: None,
         question: Question::Next,

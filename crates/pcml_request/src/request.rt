@@ -19,7 +19,7 @@ pub enum Wanted<'a> {
 /// none is named, and where at most so many configurations are seen: the outcomes that are wanted, or where it is asked
 /// the first of them alone. Where names are given (separated by commas, or `all`), only the processes of these names, and those that are wanted to
 /// end, make one outcome another, and are told. The journal that leads to one of them goes to a file, where one is
-/// named: to the one of the number `of`, from 1, and else to the first that is told.
+/// named, or is printed `alone`: to the one of the number `of`, from 1, and else to the first that is told.
 #[derive(Clone, Copy, Debug)]
 pub struct OutcomesAsked<'a> {
     pub script: &'a str,
@@ -29,6 +29,7 @@ pub struct OutcomesAsked<'a> {
     pub only: Option<&'a str>,
     pub first: bool,
     pub journal: Option<&'a str>,
+    pub alone: bool,
     pub of: Option<u32>,
 }
 
@@ -42,18 +43,19 @@ pub enum Sought<'a> {
 }
 
 /// What is sought in runs of any length of the script in a file, whether they end or not, where at most so many states
-/// are seen. The journal that leads there goes to a file, where one is named.
+/// are seen. The journal that leads there goes to a file, where one is named, or is printed `alone`.
 #[derive(Debug, Drop)]
 pub struct Seeking<'a> {
     pub script: &'a str,
     pub limit: u32,
     pub sought: Sought<'a>,
     pub journal: Option<&'a str>,
+    pub alone: bool,
 }
 
 /// How the script in a file is to be run: on so many workers, with so many rows a process, and where a number of
-/// seasons is named, so many in each of these. The lines of the journal go to a file, where one is named, and are left
-/// out of what is printed, where it is quiet. Where it is asked `why`, it is told too why each process stands where it
+/// seasons is named, so many in each of these. The lines of the journal go to a file, where one is named, are left
+/// out of what is printed, where it is quiet, or are printed `alone`. Where it is asked `why`, it is told too why each process stands where it
 /// does. Where names are needed (separated by commas, or `all`), the processes of these names have to end.
 #[derive(Clone, Copy, Debug)]
 pub struct Running<'a> {
@@ -62,6 +64,7 @@ pub struct Running<'a> {
     pub rows: u16,
     pub seasons: Option<u16>,
     pub journal: Option<&'a str>,
+    pub alone: bool,
     pub quiet: bool,
     pub why: bool,
     pub need: Option<&'a str>,
@@ -99,12 +102,12 @@ pub enum Question<'a> {
     Stats,
 }
 
-/// What is asked of the script in a file and the journal in another, of so many rows a process, and where a number of
-/// seasons is named, so many in each of these.
+/// What is asked of the script in a file and the journal in another, or one without commits where none is named, of so
+/// many rows a process, and where a number of seasons is named, so many in each of these.
 #[derive(Clone, Copy, Debug)]
 pub struct OfJournal<'a> {
     pub script: &'a str,
-    pub journal: &'a str,
+    pub journal: Option<&'a str>,
     pub rows: u16,
     pub seasons: Option<u16>,
     pub question: Question<'a>,

@@ -3,7 +3,7 @@
 ghost use Rattle.std.specs.Prelude.{◌≡◌, None, IfOk};
 ghost use Rattle.pcml_request.specs.Requests.{CanBeAnswered};
 
-use crate::commands::{command_line, request_of};
+use crate::commands::{STREAM, command_line, request_of};
 use crate::fault::WordsFault;
 use crate::request::{Drawing, OfJournal, OutcomesAsked, Question, Request, Running, Seeking};
 use clap::error::ErrorKind;
@@ -50,29 +50,25 @@ fn file_objection(asked: &Request<'_>) -> Option<&'static str> {
     match asked {
         Request::OfJournal(
             OfJournal {
-                script: "-",
-                journal: "-",
+                script: STREAM,
+                journal: Some(STREAM),
                 ..
             },
         ) => Some("only one of the two files can be the standard input"),
         Request::Run(
             Running {
-                journal: Some("-"),
+                alone: true,
+                quiet: true,
                 ..
             },
-        )
-        | Request::Outcomes(
-            OutcomesAsked {
-                journal: Some("-"),
+        ) => { Some("the journal alone goes to the standard output: leave out --quiet") }
+        Request::Run(
+            Running {
+                alone: true,
+                why: true,
                 ..
             },
-        )
-        | Request::Seek(
-            Seeking {
-                journal: Some("-"),
-                ..
-            },
-        ) => Some("the journal goes to a file with a name"),
+        ) => { Some("the journal alone goes to the standard output: leave out --why") }
         _ => None,
     }
 }
@@ -126,6 +122,9 @@ fn understood<'a>(alloc: Global, words: &'a [&'a str]) -> Result<Request<'a>, Er
 pub fn read_words<'a>(alloc: Global, words: &'a [&'a str]) -> Result<Request<'a>, WordsFault>
     ensures { IfOk result CanBeAnswered }
 {
+    if let ["--version" | "-V"] = words {
+        return Ok(Request::Version);
+    }
     match understood(alloc, words) {
         Ok(asked) => Ok(asked),
         Err(error) if error.kind() == ErrorKind::OutOfMemory => Err(WordsFault::Memory),

@@ -83,9 +83,14 @@ OfSchedule Holds name Says = (bytes : List ℕ) × Holds name bytes × Fits byte
 abbrev pub OfScript : Files → List ℕ → (Script → Type 0) → Type 0
 OfScript Holds script Says = (bytes : List ℕ) × Holds script bytes × (s : Script) × Spells bytes s × Says s
 
+-- the bytes of the journal in a file, and none where no file is named
+abbrev pub HoldsJournal : Files → Option (List ℕ) → List ℕ → Type 0
+HoldsJournal Holds (Some name) read = Holds name read
+HoldsJournal Holds None read = read ≡ []
+
 -- of the script that the one file spells, and the journal that the other holds
-abbrev pub OfFiles : Files → List ℕ → List ℕ → (Script → List ℕ → Type 0) → Type 0
-OfFiles Holds script journal Says = (bytes : List ℕ) × Holds script bytes × (s : Script) × Spells bytes s × (read : List ℕ) × Holds journal read × Says s read
+abbrev pub OfFiles : Files → List ℕ → Option (List ℕ) → (Script → List ℕ → Type 0) → Type 0
+OfFiles Holds script journal Says = (bytes : List ℕ) × Holds script bytes × (s : Script) × Spells bytes s × (read : List ℕ) × HoldsJournal Holds journal read × Says s read
 
 -- a text of a journal, with its verdict
 abbrev pub IsJudged : Replayed → Verdict → List ℕ → Type 0
@@ -96,6 +101,12 @@ IsJudged (replays.Unlawful text) verdict told = (verdict ≡ Unlawful) × (told 
 abbrev pub printed : Bool → List ℕ → List ℕ → List ℕ
 printed true lines rest = rest
 printed false lines rest = lines ++ rest
+
+-- what is printed of an answer with a journal: where it is asked for alone, its lines, or nothing where there is none
+abbrev pub printed_of : Bool → Option (List ℕ) → List ℕ → List ℕ
+printed_of true (Some lines) text = lines
+printed_of true None text = []
+printed_of false lines text = text
 
 -- the trees of the script that the source spells, with the lines of its text
 pub record AreTreesOf (source : List ℕ) (s : Script) (trees : List Tree) : Type 0 where
@@ -119,7 +130,7 @@ TellsOf question.Stats s source rows read told = TellsStats s rows read told
 -- of the script that the one file spells, and the journal that the other holds
 abbrev pub AnswersJournal : Files → OfJournal → Verdict → List ℕ → Type 0
 AnswersJournal Holds asked verdict text = (source : List ℕ) × Holds asked.script.now source × (s : Script) × Spells source s
-    × (read : List ℕ) × Holds asked.journal.now read × Fits read
+    × (read : List ℕ) × HoldsJournal Holds (option_copied asked.journal) read × Fits read
     × (told : Replayed) × TellsOf asked.question s source (all_rows asked.rows asked.seasons) read told × IsJudged told verdict text
 
 -- what is printed where this is told of why a text is no script: of a script that it is one
@@ -162,7 +173,7 @@ pub record AnswersOutcomes (Holds Keeps : Files) (search : OutcomesAsked) (verdi
   pub is_kept : SpellsKept s (kept_run search.rows search.of asked found stranded) lines
   pub kept : KeepsAsked Holds Keeps (option_copied search.journal) lines
   pub so : verdict ≡ verdict_of (judged asked.told (finding asked found) stranded) (is_some search.of) (is_some lines)
-  pub is : text ≡ outcomes_text (named s) search.rows asked found stranded
+  pub is : text ≡ printed_of search.alone lines (outcomes_text (named s) search.rows asked found stranded)
 
 -- what is told of what is sought: who of the processes that are named is left behind, who faults, or whether values are printed
 abbrev pub TellsSought : Script → ℕ → Sought → SoughtText → Type 0
@@ -180,7 +191,7 @@ pub record AnswersSought (Holds Keeps : Files) (seeking : Seeking) (verdict : Ve
   pub tells : TellsSought s seeking.limit seeking.sought told
   pub kept : KeepsAsked Holds Keeps (option_copied seeking.journal) (bytes_of told.journal)
   pub so : verdict ≡ verdict_of told.finding false (is_some (bytes_of told.journal))
-  pub is : text ≡ told.text.items
+  pub is : text ≡ printed_of seeking.alone (bytes_of told.journal) told.text.items
 
 -- of each process whether it has to end, where names are needed
 abbrev pub AreNeeded : Script → Option (List ℕ) → Option (List Bool) → Type 0
@@ -220,7 +231,7 @@ pub record AnswersRun (Holds Keeps : Files) (asked : Running) (verdict : Verdict
   pub so : verdict ≡ verdict_by needed ends
   pub why : List ℕ
   pub told : TellsWhyAsked asked.why s source (all_rows asked.rows asked.seasons) journal why
-  pub is : text ≡ printed asked.quiet lines rest ++ why
+  pub is : text ≡ printed_of asked.alone (Some lines) (printed asked.quiet lines rest ++ why)
 
 -- The line of the one pair (or none), what comes of the schedule, the script or the run that is asked for, what is asked of a script and
 -- a journal, why a text is no script, what the script can come to or what some run of it leads to, what a fault means, or the version. Where the journal of a run is to
@@ -296,12 +307,12 @@ FailsOf asked s rows read fault = ⊥
 
 -- what it says of their files
 abbrev pub FailsAsOf : Files → OfJournal → Fault → Type 0
-FailsAsOf Holds asked fault = OfFiles Holds asked.script.now asked.journal.now (λ s read. Fits read × FailsOf asked.question s (all_rows asked.rows asked.seasons) read fault)
+FailsAsOf Holds asked fault = OfFiles Holds asked.script.now (option_copied asked.journal) (λ s read. Fits read × FailsOf asked.question s (all_rows asked.rows asked.seasons) read fault)
 
 abbrev pub FailsJournal : Files → OfJournal → Fault → Type 0
 FailsJournal Holds asked (faults.File fault) = IsOfReading fault
 FailsJournal Holds asked (faults.Script fault) = FailsScript Holds asked.script.now fault
-FailsJournal Holds asked faults.TooLarge = OfFiles Holds asked.script.now asked.journal.now (λ s read. IsTooLarge read)
+FailsJournal Holds asked faults.TooLarge = OfFiles Holds asked.script.now (option_copied asked.journal) (λ s read. IsTooLarge read)
 FailsJournal Holds asked fault = FailsAsOf Holds asked fault
 
 -- want of memory, or the first name that no process has

@@ -1,5 +1,9 @@
 //! What is answered to a request.
 
+ghost use Rattle.std.specs.Prelude.{◌≡◌};
+ghost use Rattle.pcml_outcomes.specs.Told.{bytes_of};
+ghost use Rattle.pcml_tool.specs.Command.{printed_of};
+
 use std::io::Write;
 
 /// What an answer says of its request.
@@ -40,11 +44,57 @@ impl Behind {
     }
 }
 
+/// What is told behind a run whose journal was kept, and is longer than other commands read.
+const LONG: &str =
+    "the journal has more than 16777216 bytes: it was kept whole, and replay, why, chart, next and stats answer fault 23 to it. Fewer --rows or messages make a shorter one.\n";
+
+/// What is told behind a run.
+#[derive(Clone, Copy, Debug)]
+pub(crate) struct BehindRun {
+    /// Whether its journal was kept, and is longer than other commands read.
+    pub(crate) is_long: bool,
+    /// How many processes made as many syncs as they might.
+    pub(crate) spent: usize,
+}
+
+impl BehindRun {
+    fn tell<E: Write>(self, err: &mut E) {
+        if self.is_long {
+            let _ = write!(err, "{LONG}");
+        }
+        if self.spent > 0 {
+            let _ = write!(
+                err,
+                "spent: {} made as many syncs as they may; --rows (up to 1024) and --seasons allow more\n",
+                self.spent
+            );
+        }
+    }
+}
+
+/// What is printed of an answer with a journal: where it is asked for alone, its lines, or nothing where there is none.
+pub(crate) fn printed_of(alone: bool, journal: Option<Vec<u8>>, text: Vec<u8>) -> Vec<u8>
+    ensures { result.items ≡ printed_of alone (bytes_of journal) text.items }
+{
+    if !alone {
+        return text;
+    }
+    match journal {
+        Some(lines) => lines,
+        None => {
+            let mut text = text;
+            text.clear();
+            text
+        }
+    }
+}
+
 /// What is told behind an answer, on the error stream.
 #[derive(Clone, Copy, Debug)]
 pub(crate) enum Advice {
     Nothing,
     Text(&'static str),
+    Run(BehindRun),
     Outcomes(Behind),
 }
 
@@ -56,6 +106,7 @@ impl Advice {
             Advice::Text(text) => {
                 let _ = write!(err, "{text}");
             }
+            Advice::Run(behind) => behind.tell(err),
             Advice::Outcomes(behind) => behind.tell(err),
         }
     }

@@ -32,7 +32,7 @@ impl<'a> FilesRead<'a> {
                     journal,
                     ..
                 },
-            ) => (Some(*script), Some(*journal)),
+            ) => (Some(*script), *journal),
             Request::Play(file) | Request::WhyScript(file) | Request::WhyShort(file) => {
                 (None, Some(*file))
             }
@@ -77,7 +77,9 @@ fn tell_script<S: Source, E: Write>(
     err: &mut E,
 ) {
     let Ok(text) = source.read(name) else { return };
-    let Ok(Some(told)) = why_not(alloc, &text) else { return };
+    let Ok(Some(told)) = why_not(alloc, &text) else {
+        return
+    };
     let _ = err.write_all(&told);
     if is_first && begins_as_journal(&text) {
         let _ = writeln!(

@@ -2,14 +2,14 @@
 
 ghost use Rattle.std.specs.Prelude.{◌≡◌, ◌≤◌, List, ℕ, IfOk, IfErr};
 ghost use Rattle.protocol_values.specs.Commits.{most_rows};
-ghost use Rattle.std.specs.Option.{option_map};
+ghost use Rattle.std.specs.Option.{option_copied, option_map};
 ghost use Rattle.script.specs.Lines.{trees_of_script};
 ghost use Rattle.script.specs.Scripts.{script_of};
 ghost use Rattle.script.specs.Spelling.{Spells};
 ghost use Rattle.pcml_tool.specs.declared.fault.Fault.TheVariants.{Memory};
 ghost use Rattle.pcml_texts.specs.Check.{IsChecked};
 ghost use Rattle.pcml_tool.specs.Play.{IsPlayed};
-ghost use Rattle.pcml_tool.specs.Command.{AnswersJournal, AnswersWhyScript, AnswersWhyShort, AreTreesOf, IsJudged, FailsJournal, FailsOf, FailsParse, FailsPlay, FailsRead, FailsWhyScript, IsToldShort, IsToldWhyNot, OfSchedule, TellsOf};
+ghost use Rattle.pcml_tool.specs.Command.{AnswersJournal, AnswersWhyScript, AnswersWhyShort, AreTreesOf, IsJudged, FailsJournal, FailsOf, FailsParse, FailsPlay, FailsRead, FailsWhyScript, HoldsJournal, IsToldShort, IsToldWhyNot, OfSchedule, TellsOf};
 ghost use Rattle.pcml_files.specs.Files.{Fits};
 
 use crate::answer::{Advice, Answer, Verdict};
@@ -35,6 +35,21 @@ fn read_bounded<S: Source>(source: &mut S, name: &str) -> Result<Vec<u8>, Fault>
         return Err(Fault::TooLarge);
     }
     Ok(bytes)
+}
+
+/// The bytes of the journal in a file, and none where no file is named.
+fn read_journal<S: Source>(
+    alloc: Global,
+    source: &mut S,
+    name: Option<&str>,
+) -> Result<Vec<u8>, Fault>
+    ensures read { IfOk result (λ bytes. HoldsJournal (S.holds source.old) (option_copied name.entry) bytes.items × Fits bytes.items) }
+    ensures fault { IfErr result (FailsRead (HoldsJournal (S.holds source.old) (option_copied name.entry))) }
+{
+    match name {
+        Some(name) => read_bounded(source, name),
+        None => Ok(Vec::new(alloc)),
+    }
 }
 
 /// The text of a script in a file, and the script.
@@ -145,7 +160,7 @@ pub(crate) fn answer_journal<S: Source>(
     ensures fault { IfErr result (FailsJournal (S.holds source.old) asked.entry) }
 {
     let (text, script) = read_source(alloc, source, asked.script)?;
-    let journal = read_bounded(source, asked.journal)?;
+    let journal = read_journal(alloc, source, asked.journal)?;
     let rows = all_rows(asked.rows, asked.seasons);
     let told = told_of(alloc, &script, &text, &journal, rows, asked.question)?;
     Ok(judged(told))

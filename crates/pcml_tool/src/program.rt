@@ -1,6 +1,6 @@
 //! The program, over any files and any two streams.
 
-ghost use Rattle.std.specs.Prelude.{◌≡◌, ◌≤◌, ◌⊎◌, ◌++◌, List, ℕ, IfOk, IfErr, IfSome, OnOk, length};
+ghost use Rattle.std.specs.Prelude.{Some, ◌≡◌, ◌≤◌, ◌⊎◌, ◌++◌, List, ℕ, IfOk, IfErr, IfSome, OnOk, length};
 ghost use Rattle.script.specs.Lines.{trees_of_script};
 ghost use Rattle.script.specs.Scripts.{script_of};
 ghost use Rattle.std.specs.Io.KnownBytes.{Appends};
@@ -13,11 +13,11 @@ ghost use Rattle.pcml_files.specs.declared.source.SourceFault.TheVariants as fil
 ghost use Rattle.pcml_tool.specs.declared.fault.Fault.TheVariants as faults;
 ghost use Rattle.pcml_tool.specs.declared.answer.Verdict.TheVariants.{Done, Lacking};
 ghost use Rattle.pcml_request.specs.Requests.{CanBeAnswered, all_rows};
-ghost use Rattle.pcml_tool.specs.Command.{Answers, AnswersOutcomes, AnswersRun, AreNeeded, AreTreesOf, Began, Fails, FailsNamed, FailsOutcomes, FailsRun, FailsRunning, IsOfKeeping, TellsWhyAsked, marks_of, printed, verdict_by};
+ghost use Rattle.pcml_tool.specs.Command.{Answers, AnswersOutcomes, AnswersRun, AreNeeded, AreTreesOf, Began, Fails, FailsNamed, FailsOutcomes, FailsRun, FailsRunning, IsOfKeeping, TellsWhyAsked, marks_of, printed, printed_of, verdict_by};
 ghost use Rattle.pcml_tool.specs.Faults.{status_of};
 ghost use Rattle.pcml_tool.specs.Run.{TellsAsked};
 
-use crate::answer::{Advice, Answer, Verdict};
+use crate::answer::{Advice, Answer, BehindRun, Verdict};
 use crate::behind::{FilesRead, is_of_reading, tell_behind};
 use crate::fault::Fault;
 use crate::from_files::{
@@ -113,36 +113,34 @@ fn why_asked(
     }
 }
 
-/// Keeps the lines of a run in a file, where one is named, and gives what is printed: the lines, unless it is quiet, the
-/// rest, and why the processes stand so. There is room for all of it before the file is written.
+/// Keeps the lines of a run in a file, where one is named, and gives what is printed: the lines alone, or the lines,
+/// unless it is quiet, the rest, and why the processes stand so. There is room for all of it before the file is written.
 fn keep_run<S: Source>(
     source: &mut S,
     ran: RunText,
     why: &[u8],
-    journal: Option<&str>,
-    quiet: bool,
+    asked: &Running<'_>,
 ) -> Result<Vec<u8>, Fault>
-    ensures printed { IfOk result (λ text. text.items ≡ printed quiet ran.lines.items ran.rest.items ++ why.now) }
-    ensures kept { OnOk result (IfSome journal.entry (λ name. S.holds source.new name.now ran.lines.items)) }
-    ensures fault { IfErr result (IsOfKeeping journal.entry) }
+    ensures printed { IfOk result (λ text. text.items ≡ printed_of asked.now.alone (Some ran.lines.items) (printed asked.now.quiet ran.lines.items ran.rest.items ++ why.now)) }
+    ensures kept { OnOk result (IfSome asked.now.journal (λ name. S.holds source.new name.now ran.lines.items)) }
+    ensures fault { IfErr result (IsOfKeeping asked.now.journal) }
 {
     let RunText { lines, rest, .. } = ran;
     let mut text = lines;
     text.reserve(rest.len() + why.len())?;
-    if let Some(name) = journal {
+    if let Some(name) = asked.journal {
         source.store(name, &text)?;
     }
-    if quiet {
+    if asked.alone {
+        return Ok(text);
+    }
+    if asked.quiet {
         text.clear();
     }
     text.extend_from_slice(&rest)?;
     text.extend_from_slice(why)?;
     Ok(text)
 }
-
-/// What is told behind a run whose journal was kept, and is longer than other commands read.
-const LONG: &str =
-    "the journal has more than 16777216 bytes: it was kept whole, and replay, why, chart, next and stats answer fault 23 to it. Fewer --rows or messages make a shorter one.\n";
 
 /// So many bytes are asked for and given back before a run. The C library gives a larger block back to the system when it is
 /// freed, until one of up to 32 MiB was: from then on it keeps what a run frees, and the next list has its pages.
@@ -171,12 +169,15 @@ fn answer_run<R: Threads + Wait + Sync, S: Source>(
     let verdict = verdict_by(&ran.ends, &needed);
     let rows = all_rows(asked.rows, asked.seasons);
     let why = why_asked(alloc, &script, &source_text, &ran, rows, asked.why)?;
-    let is_long = asked.journal.is_some() && ran.lines.len() > MOST_BYTES;
-    let text = keep_run(source, ran, &why, asked.journal, asked.quiet)?;
+    let behind = BehindRun {
+        is_long: asked.journal.is_some() && ran.lines.len() > MOST_BYTES,
+        spent: ran.ends.iter().filter(|end| end.is_spent()).count(),
+    };
+    let text = keep_run(source, ran, &why, &asked)?;
     Ok(Answer {
         verdict,
         text,
-        advice: Advice::Text(if is_long { LONG } else { "" }),
+        advice: Advice::Run(behind),
     })
 }
 

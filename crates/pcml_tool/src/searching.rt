@@ -5,10 +5,10 @@ ghost use Rattle.std.specs.Option.{option_copied};
 ghost use Rattle.script.specs.Scripts.{script_of};
 ghost use Rattle.pcml_outcomes.specs.Stranding.{sought};
 ghost use Rattle.pcml_outcomes.specs.Told.{NamesNeeded, bytes_of};
-ghost use Rattle.pcml_tool.specs.Command.{IsOfKeeping, KeepsAsked};
+ghost use Rattle.pcml_tool.specs.Command.{IsOfKeeping, KeepsAsked, printed_of};
 ghost use Rattle.pcml_tool.specs.Searching.{FailsAsked, IsAskedBy, verdict_of};
 
-use crate::answer::{Advice, Answer, Behind, Verdict};
+use crate::answer::{Advice, Answer, Behind, Verdict, printed_of};
 use crate::fault::Fault;
 use outcomes::Asked;
 use pcml_files::Source;
@@ -80,7 +80,7 @@ pub(crate) fn keep_outcome<S: Source>(
 ) -> Result<Answer, Fault>
     ensures kept { OnOk result (KeepsAsked (S.holds source.old) (S.holds source.new) (option_copied search.now.journal) (bytes_of listed.journal)) }
     ensures verdict { IfOk result (λ answer. answer.verdict ≡ verdict_of listed.finding (is_some search.now.of) (is_some (bytes_of listed.journal))) }
-    ensures printed { IfOk result (λ answer. answer.text.items ≡ listed.text.items) }
+    ensures printed { IfOk result (λ answer. answer.text.items ≡ printed_of search.now.alone (bytes_of listed.journal) listed.text.items) }
     ensures fault { IfErr result (IsOfKeeping search.now.journal) }
 {
     let OutcomesText {
@@ -92,15 +92,16 @@ pub(crate) fn keep_outcome<S: Source>(
         is_unlooked,
     } = listed;
     let is_there = lines.is_some();
-    if let (Some(lines), Some(name)) = (lines, search.journal) {
-        source.store(name, &lines)?;
+    if let (Some(lines), Some(name)) = (&lines, search.journal) {
+        source.store(name, lines)?;
     }
     let verdict = verdict_of(finding, search.of.is_some(), is_there);
+    let is_kept = search.alone || search.journal.is_some();
     Ok(Answer {
         verdict,
-        text,
+        text: printed_of(search.alone, lines, text),
         advice: Advice::Outcomes(Behind {
-            goes_on: search.journal.and(goes_on),
+            goes_on: if is_kept { goes_on } else { None },
             text: cut_text(is_cut, search.rows),
             unlooked: unlooked(is_unlooked, verdict, search.limit),
         }),

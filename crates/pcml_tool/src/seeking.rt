@@ -6,10 +6,10 @@ ghost use Rattle.script.specs.Scripts.{script_of};
 ghost use Rattle.pcml_request.specs.declared.request.Request.TheVariants.{Seek};
 ghost use Rattle.pcml_request.specs.Requests.{CanBeAnswered};
 ghost use Rattle.pcml_outcomes.specs.Told.{bytes_of};
-ghost use Rattle.pcml_tool.specs.Command.{AnswersSought, FailsSought, FailsSoughtIn, IsOfKeeping, KeepsAsked, TellsSought};
+ghost use Rattle.pcml_tool.specs.Command.{AnswersSought, FailsSought, FailsSoughtIn, IsOfKeeping, KeepsAsked, TellsSought, printed_of};
 ghost use Rattle.pcml_tool.specs.Searching.{verdict_of};
 
-use crate::answer::{Advice, Answer};
+use crate::answer::{Advice, Answer, printed_of};
 use crate::fault::Fault;
 use crate::from_files::read_script;
 use crate::searching::verdict_of;
@@ -45,7 +45,7 @@ fn keep_sought<S: Source>(
 ) -> Result<Answer, Fault>
     ensures kept { OnOk result (KeepsAsked (S.holds source.old) (S.holds source.new) (option_copied seeking.now.journal) (bytes_of told.journal)) }
     ensures verdict { IfOk result (λ answer. answer.verdict ≡ verdict_of told.finding false (is_some (bytes_of told.journal))) }
-    ensures printed { IfOk result (λ answer. answer.text.items ≡ told.text.items) }
+    ensures printed { IfOk result (λ answer. answer.text.items ≡ printed_of seeking.now.alone (bytes_of told.journal) told.text.items) }
     ensures fault { IfErr result (IsOfKeeping seeking.now.journal) }
 {
     let SoughtText {
@@ -54,12 +54,12 @@ fn keep_sought<S: Source>(
         finding,
     } = told;
     let is_there = journal.is_some();
-    if let (Some(lines), Some(name)) = (journal, seeking.journal) {
-        source.store(name, &lines)?;
+    if let (Some(lines), Some(name)) = (&journal, seeking.journal) {
+        source.store(name, lines)?;
     }
     Ok(Answer {
         verdict: verdict_of(finding, false, is_there),
-        text,
+        text: printed_of(seeking.alone, journal, text),
         advice: advice_of(&seeking.sought, finding),
     })
 }
