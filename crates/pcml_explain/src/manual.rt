@@ -16,7 +16,7 @@ SYNOPSIS
        pcml why FILE [--short]
        pcml chart FILE JOURNAL [--rows G] [--seasons K] [--from S] [--to S]
        [--only NAMES] [--as FORM]
-       pcml next FILE JOURNAL [--rows G]
+       pcml next FILE [JOURNAL] [--rows G]
        pcml outcomes FILE [--rows G] [--limit C] [--waiting] [--need NAMES]
        [--only NAMES] [--first] [--journal TO [--of K]]
        pcml outcomes FILE --left NAMES [--limit C] [--journal TO]
@@ -81,8 +81,9 @@ COMMANDS
               prints the same words as the text of a sequence diagram.
 
        next   Prints the line of each commit that may come next where a
-              journal leads its script. A journal that is no run is answered
-              as by replay.
+              journal leads its script, and without a journal of those that
+              may come first. A journal that is no run is answered as by
+              replay.
 
        outcomes
               Tells all that a script can come to: for each outcome its
@@ -118,13 +119,13 @@ COMMANDS
               processes have little to do with one another, and more and more
               where a process counts or prints for ever. The last line has
               states followed where not all commits were followed, since one
-              of them can come first whatever follows. Each state keeps all
-              that was printed, so whoever prints for ever takes much memory,
-              and is left out by --only.  Where there are more than --limit,
-              the last line ends with cut, and standard error says what
-              helps: a larger --limit; --only or fewer messages; or --rows.
-              Where standard error is a terminal, it shows once a second how
-              many were seen and how many are open.
+              of them can come first whatever follows. What was printed tells
+              states apart, so whoever prints for ever makes ever more of
+              them, and is left out by --only.  Where there are more than
+              --limit, the last line ends with cut, and standard error says
+              what helps: a larger --limit; --only or fewer messages; or
+              --rows.  If standard error is a terminal, a line there shows
+              how many were seen and how many are open.
 
               With --rows it is of the runs alone in which a process makes at
               most G syncs. In place of the states configurations are
@@ -161,7 +162,8 @@ COMMANDS
 
        version
               Prints the version, and the logic and the kit with which it was
-              proved. An unproved build of the sources says that it is not.
+              proved. An unproved build says that it is not. So does pcml
+              --version.
 
        help   Prints the help of the program or of a command.
 
@@ -187,8 +189,9 @@ OPTIONS
               work and waits for the slowest process, so a few rows are slow
               with many workers, and a large table does not fit the caches.
               Without the option there is one table, in which a process may
-              be spent.  replay, why, chart and stats let a process make K
-              times G syncs.
+              be spent. Behind a run standard error says how many are.
+              replay, why, chart and stats let a process make K times G
+              syncs.
 
        --from S, --to S
               The first and the last stamp that is drawn, from 1; else all
@@ -217,18 +220,20 @@ OPTIONS
               goes.  A run that a signal stops, as Ctrl-C, leaves TO as it
               was or whole, and may leave pcml.K.part beside it, which can be
               removed. A journal of more than 16,777,216 bytes is kept whole;
-              standard error then says that no other command reads it.  For
-              outcomes it is a journal that leads to the outcome of --of, or
-              else to the first that is told; where there is no such outcome,
-              TO stays as it is. But where no number is named, it is then a
-              run that leads to where a process is stranded, of those that
-              are told the one with the fewest commits; or, where none is and
-              some runs go on for ever, one that leads into a circle and goes
-              round once: behind it each process has the same left to do as
-              where the circle begins. Standard error tells goes on at commit
-              and the number of the circle's first commit, from 1. Where a
-              process makes more than 256 syncs in it, replay, why and others
-              want --rows or --seasons.
+              standard error then says that no other command reads it. If TO
+              is -, the lines of the journal alone go to standard output, and
+              nothing else does.  For outcomes it is a journal that leads to
+              the outcome of --of, or else to the first that is told; where
+              there is no such outcome, TO stays as it is. But where no
+              number is named, it is then a run that leads to where a process
+              is stranded, of those that are told the one with the fewest
+              commits; or, where none is and some runs go on for ever, one
+              that leads into a circle and goes round once: behind it each
+              process has the same left to do as where the circle begins.
+              Standard error tells goes on at commit and the number of the
+              circle's first commit, from 1. Where a process makes more than
+              256 syncs in it, replay, why and others want --rows or
+              --seasons.
 
        --of K The number of the outcome whose journal is written, from 1.
               Where there is none of that number, the status is 1.
@@ -397,17 +402,17 @@ LIMITS
 EXIT STATUS
        0      The answer is on standard output.
 
-       1      A fault, which is one line on standard error, with nothing on
-              standard output but after fault 32; or a journal that is no
-              run, whose line is on standard output, and after chart on
-              standard error; or a text that is no script, of which why tells
-              that on standard output; or outcomes of which one leaves a
-              process waiting or spent, or beside which one waits for ever,
-              or of which not all is known, with --waiting or --need, or by
-              --left, --faults or --never it is not known, or of which none
-              has the number of --of.  Where standard error is a terminal,
-              the system's reason why a file cannot be read stands behind a
-              fault, or what why FILE tells of a text that is no script.
+       1      A fault, whose line is the first on standard error, with
+              nothing on standard output but after fault 32; or a journal
+              that is no run, whose line is on standard output, and after
+              chart on standard error; or a text that is no script, of which
+              why tells that on standard output; or outcomes of which one
+              leaves a process waiting or spent, or beside which one waits
+              for ever, or of which not all is known, with --waiting or
+              --need, or by --left, --faults or --never it is not known, or
+              of which none has the number of --of.  Behind the line of a
+              fault stands the system's reason why a file cannot be read, or
+              what why FILE tells of a text that is no script.
 
        2      Words that are not understood, a name that no process has, and
               a wish for help: what is to be said of it, or the help, is on
@@ -429,6 +434,9 @@ EXAMPLES
        pcml run s.pcml --journal s.journal --quiet --why
               Runs a script, keeps its journal, and tells why each process
               stands where it does.
+
+       pcml run s.pcml --journal - | pcml why s.pcml -
+              The same without a file.
 
        pcml run s.pcml --quiet --need client,server
               Tests that these two come to their end.
@@ -454,6 +462,9 @@ EXAMPLES
        pcml outcomes s.pcml --only judge
               Tells what a process can print, and how it can end, whatever
               the others do.
+
+       pcml next s.pcml
+              Tells which commits may come first.
 
        while pcml next s.pcml s.journal | head -n 1 > s.step && test -s
        s.step; do cat s.step >> s.journal; done
