@@ -122,6 +122,9 @@ class Player:
         if kind == "tells":
             is_last = last_line(answer.out).startswith("outcomes ")
             return answer.status == 0 and is_last and listing((answer.out + answer.err).decode()) == listing(body)
+        if kind == "runs":
+            is_noted = answer.err == b"" or answer.err.startswith(b"spent: ")
+            return is_noted and (answer.status, answer.out) == (0, body.encode())
         if kind == "fails":
             return (answer.status, answer.out, first_line(answer.err)) == (1, b"", body.encode())
         streams = (b"", body.encode()) if kind == "explains" else (body.encode(), b"")
@@ -142,7 +145,7 @@ class Player:
         self.left += (WORKERS - 1) * CALLS_OF_RUN
         run = ["run", script, "--workers", "1", "--journal", KEPT, *words]
         (answer,) = self.ask([self.call(run)])
-        body = next((it for it in bodies if self.is_met(answer, "prints", it)), None)
+        body = next((it for it in bodies if self.is_met(answer, "runs", it)), None)
         if body is None:
             self.note(block, f"it came to {answer}")
             return

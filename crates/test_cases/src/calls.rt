@@ -33,6 +33,8 @@ pub(crate) struct Outcome {
 #[derive(Clone, Copy)]
 pub(crate) enum Wanted {
     Prints,
+    /// The same of a run: how many processes are spent may be told on the error stream.
+    Runs,
     /// On the error stream begins what is told with this line.
     Fails,
     /// This is all that is told there.
@@ -114,6 +116,11 @@ impl Outcome {
     pub(crate) fn is(&self, wanted: Wanted, text: &str) -> bool {
         let (status, out, err) = match wanted {
             Wanted::Prints => (0, text, ""),
+            Wanted::Runs => {
+                return self.status == 0
+                    && self.out.as_slice() == text.as_bytes()
+                    && (self.err.is_empty() || self.err.starts_with(b"spent: "));
+            }
             Wanted::Unlawful => (1, text, ""),
             Wanted::Lacks => (3, text, ""),
             Wanted::Fails => {

@@ -163,7 +163,7 @@ impl<'a, R: AllocGlobal + Files + Input + Threads + Wait + Sync> Player<'a, R> {
         run.extend_from_slice(words)?;
         let outcome = self.call(run.as_slice())?;
         for block in blocks {
-            if outcome.is(Wanted::Prints, block.body) {
+            if outcome.is(Wanted::Runs, block.body) {
                 return self.check_kept(script, words, block);
             }
         }

@@ -3,6 +3,7 @@
 use pcml_files::{Source, SourceFault, SystemFiles};
 use std::alloc::{AllocError, Global};
 use std::fs::Files;
+use std::io;
 
 /// A file that was made.
 #[derive(Drop)]
@@ -87,6 +88,13 @@ impl<R: Files + Input + AllocGlobal> Source for Shelf<'_, R> {
         match Vec::from_slice(self.alloc, found) {
             Ok(text) => Ok(text),
             Err(_) => Err(SourceFault::Memory),
+        }
+    }
+
+    fn can_be_read_again(&self, name: &str) -> io::Result<bool> {
+        match self.find(name) {
+            Some(_) => Ok(true),
+            None => self.others.can_be_read_again(name),
         }
     }
 
