@@ -204,7 +204,7 @@ def bound_is_told(driven, address):
     assert text_of(page, ".asked") == "pcml outcomes script.pcml"
     bounds_are(page, False, "No bound on syncs.")
     meets(text_of(page, "#told"), "1 outcome, and that is all. Some runs go on for ever.")
-    meets(text_of(page, "#answer"), "233 states seen in ", "in runs of any length.")
+    meets(text_of(page, "#answer"), "75 states seen in ", "in runs of any length.")
     # The journal of an outcome may have more syncs than the field says.
     page.click("#answer tbody button")
     wait_answer(page)
@@ -438,7 +438,7 @@ def press_move(page, label):
 
 
 def steps_and_runs_are_one(driven, address):
-    """Step begins with the run's commits, Why and Chart show the steps, and a run replaces them once it is pressed."""
+    """Step begins with the run's commits, and Why and Chart show the steps."""
     page = opened(driven, address)
     choose_example(page, "fan_in")
     press_view(page, "run")
@@ -490,6 +490,73 @@ def steps_and_runs_are_one(driven, address):
     page.press("Enter")
     wait_answer(page)
     meets(text_of(page, "#told"), "the 8 commits of an earlier run")
+
+
+def offered(page):
+    """The journals that one may choose from; None where that is not seen."""
+    if not is_seen(page, "#journal"):
+        return None
+    return page.evaluate("[...document.querySelectorAll('#journal option')].map((it) => it.textContent)")
+
+
+def choose_journal(page, told):
+    choose(page, "#journal", str(offered(page).index(told)))
+    wait_answer(page)
+
+
+def no_journal_is_lost(driven, address):
+    """Neither a run, nor an outcome, nor other steps, nor an edit takes away what the user has made step by step."""
+    page = opened(driven, address)
+    choose_example(page, "fan_in")
+    press_view(page, "chart")
+    meets(text_of(page, "#told"), "the 8 commits of the run")
+    assert offered(page) is None, "there is one alone"
+    press_view(page, "step")
+    for _ in range(3):
+        press_move(page, "Take back")
+    assert offered(page) == ["the run: 8 commits", "your own run: 5 commits"], offered(page)
+    press_view(page, "run")
+    assert offered(page) is None, "a run shows no other"
+    press_view(page, "step")
+    meets(text_of(page, "#told"), "8 commits taken.")
+    assert sorted(offered(page)) == ["the run: 8 commits", "your own run: 5 commits"], offered(page)
+    choose_journal(page, "your own run: 5 commits")
+    meets(text_of(page, "#told"), "5 commits taken.")
+    press_view(page, "chart")
+    meets(text_of(page, "#told"), "the 5 commits of your own run")
+    press_view(page, "outcomes")
+    page.click("#answer tbody tr:nth-child(2) button")
+    wait_answer(page)
+    meets(text_of(page, "#told"), "the 8 commits of outcome 2")
+    # Steps from there are another run of his own.
+    press_view(page, "step")
+    press_move(page, "Start over")
+    page.click("#answer .commits button")
+    wait_answer(page)
+    own = ["your own run 2: 1 commit", "your own run: 5 commits"]
+    assert sorted(offered(page)) == ["outcome 2: 8 commits", "the run: 8 commits", *own], offered(page)
+    # An edit has no journal, and taken back has its own again. So has a number of syncs that is too small.
+    text = page.evaluate("playground.editor.text")
+    fill(page, "#script", text + "process another { }\n")
+    press_view(page, "step")
+    meets(text_of(page, "#told"), "0 commits taken.")
+    assert offered(page) is None
+    fill(page, "#script", text)
+    fill(page, "#rows", "1")
+    press_view(page, "why")
+    assert "your own run: 5 commits" not in (offered(page) or []), offered(page)
+    fill(page, "#rows", "256")
+    page.press("Enter")
+    wait_answer(page)
+    choose_journal(page, "your own run: 5 commits")
+    meets(text_of(page, "#told"), "the 5 commits of your own run")
+    # Nor does an example.
+    choose_example(page, "swap")
+    press_view(page, "chart")
+    assert offered(page) is None
+    choose_example(page, "fan_in")
+    press_view(page, "chart")
+    assert sorted(offered(page)) == ["the run: 8 commits", *own], offered(page)
 
 
 def faults_are_told(driven, address):
@@ -770,6 +837,7 @@ TRIALS = [
     never_else_is_told,
     steps_go_and_come,
     steps_and_runs_are_one,
+    no_journal_is_lost,
     faults_are_told,
     long_search_stops,
     links_hold_scripts,

@@ -74,7 +74,7 @@ function connect_buttons(page) {
   found("stop").addEventListener("click", () => page.caller.stop());
   found("choices").addEventListener("submit", (event) => event.preventDefault());
   found("choices").addEventListener("change", (event) => {
-    if (event.target.id === "rows") page.fit_journal();
+    if (event.target.id === "journal") page.choose_journal();
     if (["rows", "extent"].includes(event.target.id)) page.keep_held(false);
     page.show(page.view);
     if (event.target.id === "never") found(FIELDS[event.target.value] ?? "")?.focus();

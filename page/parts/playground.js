@@ -6,6 +6,7 @@ const ROWS = 256;
 const MOST_ROWS = 1024;
 const SOON_BUSY = 250;
 const PAGES = ["language", "about"];
+const WITH_JOURNAL = ["why", "chart", "step"];
 // How it is told whether all is as it has to be, by the status: it is, it is not known, some run shows that it is not.
 const KINDS = { 0: "met", 1: "open", 3: "fault" };
 const AFTER_RUN = "A run shows one outcome. Outcomes tells all, and Step lets you choose.";
@@ -35,7 +36,7 @@ class Playground {
     this.checking = new Checking(new Caller(module), this.editor);
     this.stepper = new Stepper((words, files) => this.play(words, files), (commits) => this.take(commits));
     this.search = new Search();
-    this.journal = null;
+    this.journals = new Journals();
     this.view = "";
     this.turn = 0;
     this.text = "";
@@ -62,30 +63,17 @@ class Playground {
     keep_script(this.held, is_written);
   }
 
-  // Puts a script into the editor. What was made of an earlier one is no journal of it.
+  // Puts a script into the editor.
   load({ text, rows, is_within = false }) {
     found("rows").value = rows;
     found("extent").value = is_within ? "within" : "any";
     found("example").value = "";
     this.editor.text = text;
-    this.forget();
     keep_script(this.held, false);
     this.checking.now();
   }
 
-  forget() {
-    this.journal = null;
-  }
-
-  // With another number of syncs the journal stays where it has no more: but whoever ran then might have gone on.
-  fit_journal() {
-    if (!this.journal) return;
-    if (syncs_of(this.journal.commits) > this.rows) this.forget();
-    else if (this.journal.of !== OWN) this.journal.of = "an earlier run";
-  }
-
   changed() {
-    this.forget();
     this.keep_held(true);
     this.checking.soon();
     found("example").value = "";
@@ -159,6 +147,7 @@ class Playground {
     found("bounds").textContent = BOUNDS[question ? "any" : bound] ?? "";
     found("for-ends").hidden = question !== "";
     found("waiting").disabled = this.need !== "";
+    this.draw_journals();
     for (const [asking, field] of Object.entries(FIELDS)) {
       if (field) found(field).hidden = asking !== question;
     }
@@ -170,6 +159,7 @@ class Playground {
     found("told").className = `told ${kind}`.trim();
     const call = asked ? [made("p", { class: "asked" }, `pcml ${asked.words.join(" ")}`)] : [];
     found("answer").replaceChildren(...call, ...inside);
+    this.draw_journals();
     this.editor.mark_waiting(waiting);
   }
 
@@ -196,7 +186,7 @@ class Playground {
   async run() {
     const answer = await this.play(["run", SCRIPT, "--workers", "1"]);
     const { commits, stands } = read_run(answer.out);
-    this.keep(commits, "the run");
+    this.keep("run", "the run", commits);
     const left = stands.filter((it) => it.stand !== "ended");
     const names = left.map((it) => it.name).join(", ");
     const end = left.length ? `Not ended: ${names}.` : "Every process ended.";
@@ -283,7 +273,7 @@ class Playground {
       const commits = lines_of(answer.files[JOURNAL] ?? "");
       if (syncs_of(commits) > MOST_ROWS) throw new TooLong(commits);
       if (asks_never(words) || !this.is_within) this.make_room(commits);
-      this.keep(commits, followed_by(words, answer.out));
+      this.keep("found", followed_by(words, answer.out), commits);
     } catch (error) {
       if (turn === this.turn) this.draw(await this.refused(error));
       return;
@@ -300,26 +290,46 @@ class Playground {
     this.keep_held(false);
   }
 
-  // Keeps what Why, Chart and Step show until another run is made, an outcome is shown, or a step is taken.
-  keep(commits, of) {
-    this.journal = { commits, of, script: this.text, text: commits.map((line) => `${line}\n`).join("") };
+  // Of which script, within how many syncs, a journal is that is made now.
+  get made() {
+    return { script: this.text, rows: this.rows };
   }
 
-  get has_journal() {
-    return this.journal?.script === this.text;
+  // Keeps what Why, Chart and Step show until another is kept or chosen.
+  keep(kind, of, commits) {
+    this.journals.keep(kind, of, commits, this.made);
   }
 
-  // The journal that is shown: the last one of this script, or that of a run that is made now.
+  // The journal that is shown, or that of a run that is made now.
   async shown_journal() {
-    if (!this.has_journal) await this.run();
-    return this.journal;
+    if (!this.journals.shown_of(this.made)) await this.run();
+    return this.journals.shown;
+  }
+
+  // Shows the journals of this script to choose from, where there are several.
+  draw_journals() {
+    const all = this.journals.fitting(this.made);
+    const told = (it) => `${whose(it, this.rows)}: ${counted(it.commits.length, "commit")}`;
+    found("journal").replaceChildren(...all.map((it, at) => made("option", { value: at }, told(it))));
+    found("journal").value = String(all.indexOf(this.journals.shown));
+    found("for-journal").hidden = all.length < 2 || !WITH_JOURNAL.includes(this.view);
+  }
+
+  choose_journal() {
+    this.journals.shown = this.journals.fitting(this.made)[Number(found("journal").value)];
+  }
+
+  of_journal(journal) {
+    const { commits } = journal;
+    const of = whose(journal, this.rows);
+    return commits.length ? `the ${counted(commits.length, "commit")} of ${of}` : `${of}, which made no commit`;
   }
 
   async why() {
     const journal = await this.shown_journal();
     const answer = await this.play(["why", SCRIPT, JOURNAL], { [JOURNAL]: journal.text });
     return {
-      told: `Where each process stands after ${of_journal(journal)}.`,
+      told: `Where each process stands after ${this.of_journal(journal)}.`,
       asked: answer,
       waiting: waiting_in(answer.out),
       inside: [drawn_text(answer.out, (...place) => this.editor.go_to(...place))],
@@ -329,7 +339,7 @@ class Playground {
   async chart() {
     const journal = await this.shown_journal();
     const answer = await this.play(["chart", SCRIPT, JOURNAL], { [JOURNAL]: journal.text });
-    const told = `The chart of ${of_journal(journal)}.`;
+    const told = `The chart of ${this.of_journal(journal)}.`;
     const keeper = made_keeper("Save as SVG", "chart.svg", "image/svg+xml", answer.out);
     return {
       told,
@@ -343,13 +353,14 @@ class Playground {
   }
 
   async step() {
-    if (!this.has_journal) this.keep([], OWN);
-    return this.stepper.draw(this.journal);
+    if (!this.journals.shown_of(this.made)) this.journals.keep_own([], this.made);
+    const { shown } = this.journals;
+    return this.stepper.draw(shown, whose(shown, this.rows));
   }
 
   // Shows the user's own run, of these commits.
   async take(commits) {
-    this.keep(commits, OWN);
+    this.journals.keep_own(commits, this.made);
     await this.show("step");
   }
 
@@ -405,16 +416,6 @@ function followed_by(words, out) {
   if (words.includes("--of")) return `outcome ${words.at(-1)}`;
   const { outcomes, stranded } = read_outcomes(out);
   return outcomes.length ? `outcome ${outcomes[0].number}` : `a run that leaves ${stranded[0]?.name} stranded`;
-}
-
-// How many syncs the process makes in these commits that makes the most.
-function syncs_of(commits) {
-  const numbers = commits.flatMap((line) => [...line.matchAll(/\.([0-9]+)\.[0-9]/g)]).map((it) => Number(it[1]));
-  return numbers.reduce((most, number) => Math.max(most, number + 1), 0);
-}
-
-function of_journal({ commits, of }) {
-  return commits.length ? `the ${counted(commits.length, "commit")} of ${of}` : `${of}, which made no commit`;
 }
 
 // Which outcomes are told, by the words of the call.

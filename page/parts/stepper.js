@@ -1,7 +1,5 @@
 // A run that the user makes: of the commits that may come next one is taken, and taken back. It begins with the journal
-// that is kept, of whatever run that is.
-
-const OWN = "your own run";
+// that is shown, of whatever run that is.
 
 class Stepper {
   constructor(play, show) {
@@ -11,7 +9,7 @@ class Stepper {
   }
 
   // Asks what may come next, and draws it with the chart of what was taken.
-  async draw({ commits, of, text }) {
+  async draw({ commits, kind, text }, of) {
     this.commits = commits;
     const files = { [JOURNAL]: text };
     const next = await this.play(["next", SCRIPT, JOURNAL], files);
@@ -28,7 +26,7 @@ class Stepper {
       inside: [
         ...this.drawn_choices(commits, choices),
         this.drawn_moves(commits, choices),
-        ...(of === OWN || !commits.length ? [] : [drawn_hint(`These are the commits of ${of}.`)]),
+        ...(kind === "own" || !commits.length ? [] : [drawn_hint(`These are the commits of ${of}.`)]),
         drawn_title("So far"),
         drawn_chart(chart.out, label),
         ...drawn_journal(commits),
