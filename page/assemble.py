@@ -14,8 +14,8 @@ import sys
 
 # In the order in which the scripts are read.
 SCRIPTS = [
-    "dom", "caller", "editor", "link", "kept", "answers", "never", "search", "checking", "journals", "stepper",
-    "playground", "main",
+    "dom", "caller", "editor", "link", "kept", "answers", "never", "gathering", "search", "checking", "journals",
+    "stepper", "playground", "main",
 ]
 # Nothing is asked for from anywhere. {} is the sum of the page's one script.
 POLICY = (

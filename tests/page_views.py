@@ -44,6 +44,13 @@ LONG_BESIDE = "channel c; channel d; channel e;\nprocess clock { forever { sync 
     f"process of_{it} {{ loop 100 {{ x <- sync recv {it}; }} }}\n"
     for it in "cde"
 )
+# The same, where one may end at once and leave all others waiting.
+LONG_OR_SHORT = (
+    "channel go; channel on; "
+    + re.sub(r"(process \w+ \{)", r"\1 go_on <- sync recv on;", LONG)
+    + "process boss { sync choose [send go (1), always ()]; }\n"
+    + "process starter { x <- sync recv go; loop 12 { sync send on (1); } }\n"
+)
 # Nine that make many commits: wider than a narrow screen, and longer.
 MANY = "channel c;\n" + "".join(
     f"process process_{n} {{ loop 4 {{ sync always (); }} sync send c ({n}); print {n}; }}\n" for n in range(8)
@@ -620,6 +627,53 @@ def long_search_stops(driven, address):
     assert "a state takes" not in text_of(page, "#answer")
 
 
+def stop_keeps_what_was_found(driven, address):
+    """The outcomes that a search had found, each with its run, and the answer that was there before."""
+    page = opened(driven, address)
+    fill(page, "#script", LONG_OR_SHORT)
+    search_until(page, "1 outcome found so far")
+    page.click("#stop")
+    wait_until(page, STOPPED, "the stop", 2)
+    assert re.search("Found in the first [0-9,]+ states: 1 outcome", text_of(page, "#answer"))
+    meets(text_of(page, "#answer"), "The answer before, of the script as it was then", "6 commits. Every process ended.")
+    assert page.evaluate("document.querySelector('.before').inert"), "the other script's answer can be pressed"
+    page.click("#answer tbody button")
+    wait_answer(page)
+    meets(text_of(page, "#told"), "The chart of the 1 commit of outcome 1.")
+    meets(text_of(page, "#answer"), "1 boss.0.1 always ()")
+    # That is the answer before, now. Of two stops there is one.
+    for _ in range(2):
+        page.click("[data-view=outcomes]")
+        wait_until(page, "!document.querySelector('#busy').hidden", "that it takes long")
+        page.click("#stop")
+        wait_until(page, STOPPED, "the stop", 2)
+        before = "[...document.querySelectorAll('.before')].map((it) => [it.inert, it.querySelector('p').textContent])"
+        assert page.evaluate(before) == [[False, "The chart of the 1 commit of outcome 1."]]
+        assert page.evaluate("document.querySelector('.before .picture').shadowRoot.querySelector('svg') !== null")
+    # Within a bound, and of whom it is asked, what was found has the same words.
+    choose(page, "#extent", "within")
+    wait_until(page, "!document.querySelector('#busy').hidden", "that it takes long")
+    fill(page, "#only", "boss")
+    search_until(page, "1 outcome found so far")
+    page.press("Escape")
+    wait_until(page, STOPPED, "the stop by a key", 2)
+    page.click("#answer tbody button")
+    wait_answer(page)
+    meets(text_of(page, "#told"), "The chart of the 1 commit of outcome 1.")
+    press_view(page, "about")
+    assert page.evaluate("playground.search.gathering.is_wanted") is False
+    # Where the first alone is asked for, it is told as soon as it is found.
+    page.click("[data-view=outcomes]")
+    page.click("#first")
+    wait_answer(page)
+    meets(text_of(page, "#told"), "1 outcome, the first that was found.")
+
+
+def search_until(page, told):
+    page.click("[data-view=outcomes]")
+    wait_until(page, f"document.querySelector('#busy-text').textContent.includes('{told}')", told)
+
+
 def links_hold_scripts(driven, address):
     page = opened(driven, address)
     text = "channel c;\nprocess a { sync send c (7); }\nprocess b { x <- sync recv c; print x; }\n"
@@ -840,6 +894,7 @@ TRIALS = [
     no_journal_is_lost,
     faults_are_told,
     long_search_stops,
+    stop_keeps_what_was_found,
     links_hold_scripts,
     reload_keeps_script,
     stores_may_be_refused,

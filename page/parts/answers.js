@@ -128,6 +128,18 @@ function drawn_outcomes(outcomes, follow) {
 const OF_STRANDED = "A process is stranded where it can never move any more, whatever the others do. One that could move and "
   + "is never chosen is not stranded, nor one that can always take a time-out.";
 
+function drawn_call(asked) {
+  return asked ? [made("p", { class: "asked" }, `pcml ${asked.words.join(" ")}`)] : [];
+}
+
+// An answer below what came in its place. Of a script that stands there no more it is seen, but not pressed.
+function drawn_before({ told, asked, inside }, is_same) {
+  const title = drawn_title(is_same ? "The answer before" : "The answer before, of the script as it was then");
+  const block = made("section", { class: "before" }, title, made("p", {}, told), ...drawn_call(asked), ...inside);
+  block.inert = !is_same;
+  return block;
+}
+
 function drawn_hint(text) {
   return made("p", { class: "hint" }, text);
 }

@@ -90,9 +90,14 @@ class Caller {
   }
 
   stop() {
+    this.close();
+    this.begin();
+  }
+
+  // Ends the worker, and with it what was asked of it.
+  close() {
     this.worker.terminate();
     this.fail(new Stopped());
-    this.begin();
   }
 
   // Ends all calls that are open.

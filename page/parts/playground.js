@@ -35,7 +35,8 @@ class Playground {
     this.editor = new Editor(() => this.changed());
     this.checking = new Checking(new Caller(module), this.editor);
     this.stepper = new Stepper((words, files) => this.play(words, files), (commits) => this.take(commits));
-    this.search = new Search();
+    this.search = null;
+    this.answered = null;
     this.journals = new Journals();
     this.view = "";
     this.turn = 0;
@@ -94,6 +95,7 @@ class Playground {
   // The words with the syncs that a process may make. A search is of runs of any length where they are left out, and
   // any other call has as many as always.
   bounded(words) {
+    if (words.includes("--rows")) return words;
     const is_bounded = words[0] === "outcomes" ? this.is_within && !asks_never(words) : this.rows !== ROWS;
     return is_bounded ? [...words, "--rows", String(this.rows)] : words;
   }
@@ -101,9 +103,12 @@ class Playground {
   // Calls the program on the script as it stood when the view was asked for.
   async play(words, files = {}) {
     const all = this.bounded(words);
-    this.search.begin(all);
-    const hear = words[0] === "outcomes" ? (line) => this.search.hear(line) : null;
-    const answer = await this.caller.call(all, { [SCRIPT]: this.text, ...files }, hear);
+    const given = { [SCRIPT]: this.text, ...files };
+    const search = new Search(all, new Gathering(this.caller.module, all, given));
+    this.search = search;
+    const hear = words[0] === "outcomes" ? (line) => search.hear(line) : null;
+    const ended = () => search.gathering.end();
+    const answer = await this.caller.call(all, given, hear).finally(ended);
     if (answer.broke || (answer.status !== 0 && answer.out === "")) throw new Refusal(answer, all);
     return { ...answer, words: all };
   }
@@ -153,14 +158,15 @@ class Playground {
     }
   }
 
-  draw({ told, asked, inside, waiting = new Map(), is_fault = false, kind = is_fault ? "fault" : "" }) {
+  draw(drawn) {
+    const { told, asked, inside, waiting = new Map(), is_fault = false, kind = is_fault ? "fault" : "" } = drawn;
     this.end_busy();
     found("told").textContent = told;
     found("told").className = `told ${kind}`.trim();
-    const call = asked ? [made("p", { class: "asked" }, `pcml ${asked.words.join(" ")}`)] : [];
-    found("answer").replaceChildren(...call, ...inside);
+    found("answer").replaceChildren(...drawn_call(asked), ...inside);
     this.draw_journals();
     this.editor.mark_waiting(waiting);
+    if (!drawn.is_stop) this.answered = { ...drawn, script: this.text };
   }
 
   // While a call takes long, how long and how far it is, and a button that stops it.
@@ -168,7 +174,7 @@ class Playground {
     const began = performance.now();
     clearInterval(this.ticking);
     this.ticking = setInterval(() => {
-      if (performance.now() - began < SOON_BUSY) return;
+      if (performance.now() - began < SOON_BUSY || !this.search) return;
       found("busy").hidden = false;
       this.set_dim(true);
       found("busy-text").textContent = `Under way for ${this.search.seconds} s${this.search.how_far}`;
@@ -227,21 +233,45 @@ class Playground {
     if (this.question) return this.never();
     const words = this.outcome_words();
     const answer = await this.play(words);
-    const { outcomes, stranded, seen, extent } = read_outcomes(answer.out);
+    const read = read_outcomes(answer.out);
+    const { outcomes, stranded, seen, extent } = read;
     const seen_in = `${seen} seen in ${Math.round(answer.milliseconds)} ms, in runs ${this.told_extent}.`;
     const is_asked = stranded.length || (words.includes("--need") && extent.endsWith("for ever"));
     const meant = [...(is_asked ? [OF_STRANDED] : []), ...(words.includes("--only") ? [ONLY_THESE] : [])];
     const hints = [...meant, seen_in, ...lines_of(answer.err)].map(drawn_hint);
-    const follow = (number) => this.follow([...words, "--of", String(number)]);
-    const drawn = outcomes.length ? drawn_outcomes(outcomes, follow) : [];
-    const follow_to = (name) => this.follow(["outcomes", SCRIPT, "--need", name]);
-    const others = stranded.length ? drawn_stranded(stranded, follow_to) : [];
     return {
       told: told_of_outcomes(outcomes.length, stranded, extent, words, answer.status),
       kind: words.includes("--need") ? KINDS[answer.status] : "",
       asked: answer,
-      inside: [...drawn, ...others, ...hints],
+      inside: [...this.drawn_found(read, words), ...hints],
     };
+  }
+
+  // The outcomes that a call of these words told, and who is stranded, each with its run.
+  drawn_found({ outcomes, stranded }, words) {
+    const follow = (number) => this.follow([...words, "--of", String(number)]);
+    const follow_to = (name) => this.follow(["outcomes", SCRIPT, "--need", name]);
+    return [
+      ...(outcomes.length ? drawn_outcomes(outcomes, follow) : []),
+      ...(stranded.length ? drawn_stranded(stranded, follow_to) : []),
+    ];
+  }
+
+  // What a call that came to no end had found.
+  drawn_so_far() {
+    const so_far = this.search?.gathering.found;
+    return so_far ? [drawn_title(told_so_far(so_far)), ...this.drawn_found(so_far, so_far.words)] : [];
+  }
+
+  // What stays once a call was stopped: what it had found, and the answer that was there before.
+  stopped() {
+    const { answered } = this;
+    const drawn = this.search.stopped();
+    drawn.inside.push(...this.drawn_so_far());
+    if (!answered) return drawn;
+    const is_same = answered.script === this.text;
+    drawn.inside.push(drawn_before(answered, is_same));
+    return { ...drawn, waiting: is_same ? answered.waiting : new Map() };
   }
 
   // Whether what must never happen does in some run. While its field is empty, that says what to fill in.
@@ -366,9 +396,12 @@ class Playground {
 
   // What is told where a call was stopped, broke off, or was refused by the program, or where a run is too long.
   async refused(error) {
-    if (error instanceof Stopped) return this.search.stopped();
+    if (error instanceof Stopped) return this.stopped();
     if (error instanceof TooLong) return error.drawn();
-    if (error instanceof Refusal) return error.drawn(this.checking.caller, this.editor);
+    if (error instanceof Refusal) {
+      const drawn = await error.drawn(this.checking.caller, this.editor);
+      return { ...drawn, inside: [...drawn.inside, ...this.drawn_so_far()] };
+    }
     return { told: "The page failed.", is_fault: true, inside: [made("p", {}, String(error))] };
   }
 }
@@ -423,6 +456,12 @@ function kind_of_outcomes(count, words) {
   const outcomes = counted(count, "outcome");
   if (words.includes("--need")) return `${outcomes} in which one of these has not ended`;
   return words.includes("--waiting") ? `${outcomes} that leave${count === 1 ? "s" : ""} somebody waiting` : outcomes;
+}
+
+// What is told of the outcomes that were found before a search was stopped.
+function told_so_far({ outcomes, seen, extent, words }) {
+  const kind = kind_of_outcomes(outcomes.length, words);
+  return extent.startsWith("all") ? `${kind}, and that is all` : `Found in the first ${seen}: ${kind}`;
 }
 
 // What is told of those that have to end, where no outcome keeps one from it.

@@ -3,8 +3,9 @@
 const STATES = /^([0-9]+) states seen, ([0-9]+) open$/;
 
 class Search {
-  begin(words) {
+  constructor(words, gathering) {
     this.words = words;
+    this.gathering = gathering;
     this.began = performance.now();
     this.count = 0;
     this.told = null;
@@ -15,6 +16,7 @@ class Search {
     const [, seen, open] = STATES.exec(line) ?? [];
     if (!seen) this.count += 1;
     this.told = seen ? { seen: counted(Number(seen), "state"), open: Number(open).toLocaleString("en") } : null;
+    if (seen) this.gathering.reach(Number(seen));
   }
 
   get seconds() {
@@ -24,7 +26,9 @@ class Search {
   // Behind the first search another looks for who is stranded.
   get how_far() {
     const which = this.count > 1 ? " in the second search" : "";
-    return this.told ? `: ${this.told.seen} seen${which}, ${this.told.open} of them still to look at` : which;
+    const { found } = this.gathering;
+    const so_far = found ? `; ${counted(found.outcomes.length, "outcome")} found so far` : "";
+    return this.told ? `: ${this.told.seen} seen${which}, ${this.told.open} of them still to look at${so_far}` : which;
   }
 
   // What is left on the page once it was stopped: how far it was, and what makes it shorter.
@@ -32,7 +36,8 @@ class Search {
     const hints = this.words[0] === "outcomes" ? [this.told_so_far(), this.told_shorter()] : [
       "A run is shorter where a process may make fewer syncs.",
     ];
-    return { told: `Stopped after ${counted(this.seconds, "second")}.`, asked: this, inside: hints.map(drawn_hint) };
+    const told = `Stopped after ${counted(this.seconds, "second")}.`;
+    return { told, asked: this, inside: hints.map(drawn_hint), is_stop: true };
   }
 
   told_so_far() {
