@@ -827,6 +827,67 @@ def wide_answers_scroll(driven, address):
     assert sides_of(page) == {"left": False, "right": False, "told": False}
 
 
+def charts_fit(driven, address):
+    """A chart is drawn as wide as there is room where that is asked for, and never wider than it is."""
+    page = opened(driven, address, NARROW)
+    fill(page, "#script", MANY)
+    press_view(page, "chart")
+    wait_until(page, "document.querySelector('.has-right > .picture')", "that the chart is wider")
+    number = page.evaluate("playground.caller.number")
+    page.click("#fit")
+    wait_until(page, "!document.querySelector('.has-right > .picture')", "that the chart fits")
+    assert page.evaluate("playground.caller.number") == number, "the program was asked anew"
+    chart = "document.querySelector('.picture').shadowRoot.querySelector('svg:not(.names)')"
+    names = "document.querySelector('.picture').shadowRoot.querySelector('.names')"
+    box = page.evaluate(f"{chart}.getBoundingClientRect().toJSON()")
+    drawn = page.evaluate(f"(({{ width, height }}) => [width, height])({chart}.viewBox.baseVal)")
+    assert box["width"] < drawn[0] and abs(box["height"] / box["width"] - drawn[1] / drawn[0]) < 0.01, (box, drawn)
+    # Its names lie over those of the chart, and stay.
+    last = "[...{}.querySelectorAll('text')].find((it) => it.textContent === 'gathering').getBoundingClientRect().toJSON()"
+    over, below = page.evaluate(last.format(names)), page.evaluate(last.format(chart))
+    assert all(abs(over[it] - below[it]) < 0.5 for it in ("left", "top", "height")), (over, below)
+    page.evaluate("document.querySelector('.picture').scrollBy(0, 150)")
+    top = "document.querySelector('.picture').getBoundingClientRect().top"
+    if page.evaluate("document.querySelector('.picture').scrollTop") > 60:
+        assert abs(page.evaluate(f"{names}.getBoundingClientRect().top - {top}")) < 0.5, "the names went away"
+    press_view(page, "step")
+    assert page.evaluate(f"{chart}.getBoundingClientRect().width") == box["width"], "the next chart does not fit"
+    choose_example(page, "ping_pong")
+    press_view(page, "chart")
+    wide = page.evaluate(f"[{chart}.getBoundingClientRect().width, {chart}.viewBox.baseVal.width]")
+    assert wide[0] == wide[1], f"a chart that fits is changed: {wide}"
+    press_view(page, "outcomes")
+    assert not is_seen(page, "#fit")
+    fill(page, "#script", MANY)
+    press_view(page, "chart")
+    page.click("#fit")
+    wait_until(page, "document.querySelector('.has-right > .picture')", "that the chart is wider again")
+    # Where it is as tall as before, too.
+    page.size(*WIDE)
+    page.click("#fit")
+    wait_until(page, "!document.querySelector('.has-right > .picture')", "that the wide chart fits")
+
+
+def nothing_lies_over_a_name(driven, address):
+    """The button of an outcome stands beside its number, and is in view with it."""
+    page = opened(driven, address, NARROW)
+    fill(page, "#script", MANY)
+    press_view(page, "outcomes")
+    button = "document.querySelector('#answer tbody button')"
+    page.evaluate(f"{button}.scrollIntoView({{ block: 'center' }})")
+    for _ in range(2):
+        box = page.evaluate(f"{button}.getBoundingClientRect().toJSON()")
+        head = page.evaluate("document.querySelector('#answer th').getBoundingClientRect().toJSON()")
+        assert head["left"] <= box["left"] and box["right"] <= head["right"], (head, box)
+        edge = page.evaluate("document.querySelector('#answer .wide').getBoundingClientRect().right")
+        at = f"document.elementFromPoint({edge - 4}, {(box['top'] + box['bottom']) / 2})"
+        assert page.evaluate(f"{at}.closest('td') !== null && {at}.closest('button') === null"), "no outcome is there"
+        page.evaluate("document.querySelector('#answer .wide').scrollBy(70, 0)")
+    page.click("#answer tbody button")
+    wait_answer(page)
+    meets(text_of(page, "#told"), "commits of outcome 1.")
+
+
 def sides_of(page):
     return page.evaluate(
         "(() => { const frame = document.querySelector('#answer .sideways');"
@@ -902,6 +963,8 @@ TRIALS = [
     all_is_named,
     fits_a_narrow_screen,
     wide_answers_scroll,
+    charts_fit,
+    nothing_lies_over_a_name,
     old_browsers_are_told,
     language_can_be_tried,
 ]

@@ -103,17 +103,17 @@ function drawn_journal(commits) {
   return [drawn_title("Journal", made_copier("Copy journal", () => text)), block];
 }
 
+// The button stands beside the number, so that it is in view with it and lies over nothing.
 function drawn_outcome({ number, stands }, follow) {
   const cells = stands.map((it) => made("td", {}, ...drawn_stand(it)));
   const button = made_button("Show", () => follow(number), { class: "plain", "aria-label": `Show outcome ${number}` });
-  return made("tr", {}, made("th", { scope: "row" }, String(number)), ...cells, made("td", { class: "last" }, button));
+  return made("tr", {}, made("th", { scope: "row" }, String(number), button), ...cells);
 }
 
 // A row for each outcome, a column for each process. Of many outcomes the first are drawn, and the rest when asked for.
 function drawn_outcomes(outcomes, follow) {
   const names = outcomes[0].stands.map((it) => it.name);
   const head = ["Outcome", ...names].map((name) => made("th", { scope: "col" }, name));
-  head.push(made("td", { class: "last" }));
   const body = made("tbody", {}, ...outcomes.slice(0, MOST_OUTCOMES).map((it) => drawn_outcome(it, follow)));
   const block = drawn_table("Outcomes", { head, body });
   const rest = outcomes.slice(MOST_OUTCOMES);
@@ -151,7 +151,7 @@ function drawn_stranded(stranded, follow) {
     return made("tr", {},
       made("th", { scope: "row" }, name),
       made("td", {}, made("span", { class: "stranded" }, `stranded${after}`)),
-      made("td", { class: "last" }, made_button("Show", () => follow(name), label)));
+      made("td", {}, made_button("Show", () => follow(name), label)));
   });
   const title = drawn_title("Stranded, though others go on");
   return [title, drawn_table("Who is stranded", { body: made("tbody", {}, ...rows), id: "stranded" })];
@@ -167,6 +167,8 @@ function drawn_names(chart) {
   names.setAttribute("class", "names");
   names.setAttribute("height", NAMES.height);
   names.setAttribute("viewBox", `0 ${NAMES.top} ${width} ${NAMES.height}`);
+  // A share of the width, as the chart may be drawn smaller.
+  names.style.marginTop = `${(100 * NAMES.top) / width}%`;
   const texts = [...chart.children].filter((it) => it.localName === "text" && it.getAttribute("y") === NAMES.line);
   names.append(...texts.map((it) => it.cloneNode(true)));
   return names;
@@ -174,8 +176,8 @@ function drawn_names(chart) {
 
 // The chart's own rules are for black on white. These are of the page, and hold where the chart is drawn.
 const CHART_RULES = `
-  svg { grid-area: 1 / 1; display: block; color: var(--ink); background: var(--paper); }
-  .names { position: sticky; top: 0; margin-top: ${NAMES.top}px; }
+  svg { grid-area: 1 / 1; display: block; width: 100%; height: auto; color: var(--ink); background: var(--paper); }
+  .names { position: sticky; top: 0; }
   rect { fill: var(--paper) !important; }
   text { fill: var(--ink); stroke: var(--paper) !important; }
   path { stroke: var(--ink) !important; }
@@ -185,13 +187,24 @@ const CHART_RULES = `
   circle { fill: var(--ink); }
 `;
 
-// The chart, in a tree of its own, so that its rules are none of the page.
+// The chart, in a tree of its own, so that its rules are none of the page. It is as wide as it was drawn or, where it is
+// to fit, as there is room.
 function drawn_chart(svg, label) {
   const place = made("div", { class: "picture", role: "img", tabindex: "0" });
   const read = new DOMParser().parseFromString(svg, "image/svg+xml");
   const chart = document.importNode(read.documentElement, true);
+  place.style.setProperty("--width", `${chart.getAttribute("width")}px`);
+  place.classList.toggle("is-fit", found("fit").checked);
   place.attachShadow({ mode: "open" }).append(chart, drawn_names(chart), made("style", {}, CHART_RULES));
   return framed(place, label);
+}
+
+// Lets the charts that are there fit, or not. Their frames look anew on which side there is more.
+function fit_charts() {
+  for (const place of document.querySelectorAll(".picture")) {
+    place.classList.toggle("is-fit", found("fit").checked);
+    place.dispatchEvent(new Event("scroll"));
+  }
 }
 
 // A button that keeps a text as a file.

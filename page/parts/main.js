@@ -66,6 +66,14 @@ function connect_link(held) {
   });
 }
 
+// Asks anew by what was chosen.
+function choose(page, { id, value }) {
+  if (id === "journal") page.choose_journal();
+  if (["rows", "extent"].includes(id)) page.keep_held(false);
+  page.show(page.view);
+  if (id === "never") found(FIELDS[value] ?? "")?.focus();
+}
+
 function connect_buttons(page) {
   for (const button of document.querySelectorAll(".acts button")) {
     button.addEventListener("click", () => page.show(button.dataset.view));
@@ -73,11 +81,9 @@ function connect_buttons(page) {
   found("again").addEventListener("click", () => page.show(page.view));
   found("stop").addEventListener("click", () => page.caller.stop());
   found("choices").addEventListener("submit", (event) => event.preventDefault());
-  found("choices").addEventListener("change", (event) => {
-    if (event.target.id === "journal") page.choose_journal();
-    if (["rows", "extent"].includes(event.target.id)) page.keep_held(false);
-    page.show(page.view);
-    if (event.target.id === "never") found(FIELDS[event.target.value] ?? "")?.focus();
+  found("choices").addEventListener("change", ({ target }) => {
+    if (target.id === "fit") fit_charts();
+    else choose(page, target);
   });
   document.addEventListener("keydown", (event) => {
     if (event.key === "Escape" && page.caller.open.size) page.caller.stop();

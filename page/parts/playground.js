@@ -7,6 +7,7 @@ const MOST_ROWS = 1024;
 const SOON_BUSY = 250;
 const PAGES = ["language", "about"];
 const WITH_JOURNAL = ["why", "chart", "step"];
+const WITH_CHART = ["chart", "step"];
 // How it is told whether all is as it has to be, by the status: it is, it is not known, some run shows that it is not.
 const KINDS = { 0: "met", 1: "open", 3: "fault" };
 const AFTER_RUN = "A run shows one outcome. Outcomes tells all, and Step lets you choose.";
@@ -151,6 +152,7 @@ class Playground {
     found("for-rows").hidden = bound === "any" || question !== "";
     found("bounds").textContent = BOUNDS[question ? "any" : bound] ?? "";
     found("for-ends").hidden = question !== "";
+    found("for-fit").hidden = !WITH_CHART.includes(view);
     found("waiting").disabled = this.need !== "";
     this.draw_journals();
     for (const [asking, field] of Object.entries(FIELDS)) {
