@@ -277,6 +277,43 @@ def only_and_first_are_asked(driven, address):
     meets(text_of(page, "#answer"), "no process is named 'nobody'")
 
 
+def runs_for_ever_are_shown(driven, address):
+    """Where nothing else is told, a run that goes round; where an outcome or who is stranded is, those."""
+    page = opened(driven, address)
+    fill(page, "#script", "process a { sync always (); forever { sync always (); } }\n")
+    press_view(page, "outcomes")
+    meets(text_of(page, "#told"), "0 outcomes, and that is all. Some runs go on for ever.")
+    page.click("#answer .moves button")
+    wait_answer(page)
+    meets(text_of(page, "#told"), " commits of a run that goes round for ever from commit ")
+    press_view(page, "step")
+    meets(text_of(page, "#told"), "1 may come next.")
+    for script in (BESIDE, WRONG.replace("x = 1;", "end;")):
+        fill(page, "#script", script)
+        press_view(page, "outcomes")
+        assert page.evaluate("document.querySelector('#answer .moves') === null"), script
+
+
+def charts_are_of_some(driven, address):
+    page = opened(driven, address)
+    fill(page, "#script", MANY)
+    press_view(page, "outcomes")
+    assert not is_seen(page, "#columns")
+    press_view(page, "chart")
+    fill(page, "#columns", "process_1 , gathering")
+    page.press("Enter")
+    wait_answer(page)
+    meets(text_of(page, ".asked"), "pcml chart script.pcml script.journal --only process_1,gathering")
+    names = "[...document.querySelector('.picture').shadowRoot.querySelectorAll('.names text')]"
+    heads = page.evaluate(f"{names}.map((it) => it.textContent)")
+    assert heads == ["process_1", "gathering", "others"], heads
+    assert page.evaluate("document.querySelector('.has-right > .picture') === null"), "it is as wide as before"
+    fill(page, "#columns", "nobody")
+    page.press("Enter")
+    wait_answer(page)
+    meets(text_of(page, "#answer"), "no process is named 'nobody'")
+
+
 def needs_end(page, names, words, told, kind):
     """These names in the field ask by these words."""
     fill(page, "#need", names)
@@ -947,6 +984,8 @@ TRIALS = [
     options_count,
     bound_is_told,
     only_and_first_are_asked,
+    runs_for_ever_are_shown,
+    charts_are_of_some,
     stranded_is_told,
     never_printed_is_told,
     never_else_is_told,

@@ -153,6 +153,7 @@ class Playground {
     found("bounds").textContent = BOUNDS[question ? "any" : bound] ?? "";
     found("for-ends").hidden = question !== "";
     found("for-fit").hidden = !WITH_CHART.includes(view);
+    found("for-columns").hidden = view !== "chart";
     found("waiting").disabled = this.need !== "";
     this.draw_journals();
     for (const [asking, field] of Object.entries(FIELDS)) {
@@ -245,7 +246,7 @@ class Playground {
       told: told_of_outcomes(outcomes.length, stranded, extent, words, answer.status),
       kind: words.includes("--need") ? KINDS[answer.status] : "",
       asked: answer,
-      inside: [...this.drawn_found(read, words), ...hints],
+      inside: [...this.drawn_found(read, words), ...this.drawn_circle(read, words), ...hints],
     };
   }
 
@@ -257,6 +258,13 @@ class Playground {
       ...(outcomes.length ? drawn_outcomes(outcomes, follow) : []),
       ...(stranded.length ? drawn_stranded(stranded, follow_to) : []),
     ];
+  }
+
+  // A run that goes on for ever. The program keeps one where it tells no outcome, and nobody who is stranded.
+  drawn_circle({ outcomes, stranded, extent }, words) {
+    if (outcomes.length || stranded.length || !extent.endsWith("for ever")) return [];
+    const button = made_button("Show a run that goes on for ever", () => this.follow(words));
+    return [made("div", { class: "moves" }, button)];
   }
 
   // What a call that came to no end had found.
@@ -305,7 +313,7 @@ class Playground {
       const commits = lines_of(answer.files[JOURNAL] ?? "");
       if (syncs_of(commits) > MOST_ROWS) throw new TooLong(commits);
       if (asks_never(words) || !this.is_within) this.make_room(commits);
-      this.keep("found", followed_by(words, answer.out), commits);
+      this.keep("found", followed_by(words, answer), commits);
     } catch (error) {
       if (turn === this.turn) this.draw(await this.refused(error));
       return;
@@ -370,7 +378,9 @@ class Playground {
 
   async chart() {
     const journal = await this.shown_journal();
-    const answer = await this.play(["chart", SCRIPT, JOURNAL], { [JOURNAL]: journal.text });
+    const columns = without_gaps(found("columns").value);
+    const words = ["chart", SCRIPT, JOURNAL, ...(columns ? ["--only", columns] : [])];
+    const answer = await this.play(words, { [JOURNAL]: journal.text });
     const told = `The chart of ${this.of_journal(journal)}.`;
     const keeper = made_keeper("Save as SVG", "chart.svg", "image/svg+xml", answer.out);
     return {
@@ -446,10 +456,12 @@ class Refusal extends Error {
 }
 
 // What the journal leads to that was kept: the outcome of the number that was asked for, or else what is told first.
-function followed_by(words, out) {
+function followed_by(words, { out, err }) {
   if (asks_never(words)) return `a run to where ${what_happens(read_never(out)[0])}`;
   if (words.includes("--of")) return `outcome ${words.at(-1)}`;
   const { outcomes, stranded } = read_outcomes(out);
+  const [, first] = /^goes on at commit ([0-9]+)$/m.exec(err) ?? [];
+  if (first) return `a run that goes round for ever from commit ${first} on`;
   return outcomes.length ? `outcome ${outcomes[0].number}` : `a run that leaves ${stranded[0]?.name} stranded`;
 }
 
