@@ -16,6 +16,8 @@ NARROW = (390, 844)
 VIEWS = ["run", "outcomes", "why", "chart", "step", "language", "about"]
 # The page answers its first example within so many milliseconds of its loading.
 SOON = 1000
+# The page has at most so many bytes.
+LARGEST = 800_000
 # Nothing that an earlier page kept is there.
 FRESH = "try { localStorage.clear(); sessionStorage.clear(); } catch {}\n"
 # The browser lets a page have no store.
@@ -706,6 +708,20 @@ def stop_keeps_what_was_found(driven, address):
     meets(text_of(page, "#told"), "1 outcome, the first that was found.")
 
 
+def found_outlives_the_memory(driven, address):
+    """A search that ends for want of memory tells the outcomes that it had found. The worker's answer is made up."""
+    page = opened(driven, address)
+    fill(page, "#script", LONG_OR_SHORT)
+    search_until(page, "1 outcome found so far")
+    page.evaluate(
+        "(({ worker, number }) => worker.onmessage({ data: { number, status: 1, broke: '', out: new Uint8Array(),"
+        " err: new TextEncoder().encode('fault 1\\n'), files: {}, milliseconds: 1 } }))(playground.caller)"
+    )
+    wait_until(page, "document.querySelector('#told').textContent === 'The program refuses this.'", "the fault")
+    meets(text_of(page, "#answer"), "gave the program no more memory", "Found in the first ", ": 1 outcome")
+    page.close()
+
+
 def search_until(page, told):
     page.click("[data-view=outcomes]")
     wait_until(page, f"document.querySelector('#busy-text').textContent.includes('{told}')", told)
@@ -958,6 +974,15 @@ def language_can_be_tried(driven, address):
     meets(text_of(page, "#about"), "What is proved", "What is trusted", "memory.c", "SHA-256")
 
 
+def path_of(address):
+    return pathlib.Path(urllib.parse.unquote(urllib.parse.urlparse(address).path))
+
+
+def is_small(driven, address):
+    size = path_of(address).stat().st_size
+    assert size <= LARGEST, f"the page has {size:,} bytes"
+
+
 class Host(http.server.SimpleHTTPRequestHandler):
     """A static host that tells nothing of its requests."""
 
@@ -966,7 +991,7 @@ class Host(http.server.SimpleHTTPRequestHandler):
 
 
 def any_host_serves_it(driven, address):
-    path = pathlib.Path(urllib.parse.unquote(urllib.parse.urlparse(address).path))
+    path = path_of(address)
     host = http.server.ThreadingHTTPServer(("127.0.0.1", 0), functools.partial(Host, directory=path.parent))
     threading.Thread(target=host.serve_forever, daemon=True).start()
     try:
@@ -978,6 +1003,7 @@ def any_host_serves_it(driven, address):
 
 
 TRIALS = [
+    is_small,
     answers_soon,
     any_host_serves_it,
     views_show,
@@ -995,6 +1021,7 @@ TRIALS = [
     faults_are_told,
     long_search_stops,
     stop_keeps_what_was_found,
+    found_outlives_the_memory,
     links_hold_scripts,
     reload_keeps_script,
     stores_may_be_refused,
