@@ -674,7 +674,7 @@ def stop_keeps_what_was_found(driven, address):
     page.click("#stop")
     wait_until(page, STOPPED, "the stop", 2)
     assert re.search("Found in the first [0-9,]+ states: 1 outcome", text_of(page, "#answer"))
-    meets(text_of(page, "#answer"), "The answer before, of the script as it was then", "6 commits. Every process ended.")
+    meets(text_of(page, "#answer"), "The answer before, of the script as it was then", "6 commits.")
     assert page.evaluate("document.querySelector('.before').inert"), "the other script's answer can be pressed"
     page.click("#answer tbody button")
     wait_answer(page)
@@ -896,7 +896,8 @@ def charts_fit(driven, address):
     drawn = page.evaluate(f"(({{ width, height }}) => [width, height])({chart}.viewBox.baseVal)")
     assert box["width"] < drawn[0] and abs(box["height"] / box["width"] - drawn[1] / drawn[0]) < 0.01, (box, drawn)
     # Its names lie over those of the chart, and stay.
-    last = "[...{}.querySelectorAll('text')].find((it) => it.textContent === 'gathering').getBoundingClientRect().toJSON()"
+    last = "[...{}.querySelectorAll('text')].find((it) => it.textContent === 'gathering')"
+    last += ".getBoundingClientRect().toJSON()"
     over, below = page.evaluate(last.format(names)), page.evaluate(last.format(chart))
     assert all(abs(over[it] - below[it]) < 0.5 for it in ("left", "top", "height")), (over, below)
     page.evaluate("document.querySelector('.picture').scrollBy(0, 150)")

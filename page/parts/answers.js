@@ -187,8 +187,8 @@ const CHART_RULES = `
   circle { fill: var(--ink); }
 `;
 
-// The chart, in a tree of its own, so that its rules are none of the page. It is as wide as it was drawn or, where it is
-// to fit, as there is room.
+// The chart, in a tree of its own, so that its rules are none of the page. It is as wide as it was drawn or, if it is to
+// fit, as there is room.
 function drawn_chart(svg, label) {
   const place = made("div", { class: "picture", role: "img", tabindex: "0" });
   const read = new DOMParser().parseFromString(svg, "image/svg+xml");

@@ -15,8 +15,8 @@ class Journals {
     this.shown = null;
   }
 
-  // Keeps the journal of a script with these syncs a process, and shows it. Of another kind than the user's own there is
-  // one; of his own as many as he made, but no empty one.
+  // Keeps the journal of a script with these syncs a process, and shows it. Of another kind than the user's own there
+  // is one; of his own as many as he made, but no empty one.
   keep(kind, of, commits, { script, rows }) {
     const is_left = (it) => (it.kind === "own" ? it.commits.length > 0 : it.script === script && it.kind !== kind);
     const text = commits.map((line) => `${line}\n`).join("");
@@ -48,7 +48,7 @@ class Journals {
   }
 }
 
-// Whose commits a journal has. Whoever ran with another number of syncs might have gone on, or might not have come there.
+// Whose commits a journal has. Whoever ran with another number of syncs might have gone on, or not have come there.
 function whose({ kind, of, rows }, rows_now) {
   return kind !== "own" && rows !== rows_now ? "an earlier run" : of;
 }
