@@ -6,3 +6,4 @@ pub mod Command
 pub mod Version
 pub mod Searching
 pub mod Seasons
+pub mod Behind

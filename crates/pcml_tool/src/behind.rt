@@ -1,13 +1,17 @@
 //! What is told behind a fault: why a file cannot be read, or what is wrong with a script.
 
-ghost use Rattle.std.specs.Prelude.{◌≢◌, IsTrue};
+ghost use Rattle.std.specs.Prelude.{◌≢◌, IfOk, IfSome, IsTrue};
 ghost use Rattle.pcml_files.specs.declared.source.SourceFault.TheVariants as files;
+ghost use Rattle.pcml_tool.specs.Behind.{AreReadBy};
+ghost use Rattle.pcml_tool.specs.Command.{AnswersWhyScript};
+ghost use Rattle.pcml_tool.specs.declared.answer.Verdict.TheVariants.{Denied};
 ghost use Rattle.pcml_tool.specs.declared.fault.Fault.TheVariants as faults;
 
+use crate::answer::{Answer, Verdict};
 use crate::fault::Fault;
+use crate::from_files::why_file;
 use pcml_files::{MOST_BYTES, Source, SourceFault};
 use pcml_request::{OfJournal, OutcomesAsked, Request, Running, Seeking};
-use script_mistakes::why_not;
 use std::alloc::Global;
 use std::io::Write;
 
@@ -18,28 +22,28 @@ pub(crate) struct FilesRead<'a> {
     other: Option<&'a str>,
 }
 
-impl<'a> FilesRead<'a> {
-    /// The files that the request reads.
-    pub(crate) fn of(asked: &Request<'a>) -> FilesRead<'a> {
-        let (script, other) = match asked {
-            Request::Run(Running { script, .. })
-            | Request::Outcomes(OutcomesAsked { script, .. })
-            | Request::Seek(Seeking { script, .. })
-            | Request::Check(script) => (Some(*script), None),
-            Request::OfJournal(
-                OfJournal {
-                    script,
-                    journal,
-                    ..
-                },
-            ) => (Some(*script), *journal),
-            Request::Play(file) | Request::WhyScript(file) | Request::WhyShort(file) => {
-                (None, Some(*file))
-            }
-            Request::Meet(_) | Request::Explain(_) | Request::Version => (None, None),
-        };
-        FilesRead { script, other }
-    }
+/// The files that the request reads.
+pub(crate) fn files_of<'a>(asked: &Request<'a>) -> FilesRead<'a>
+    ensures { AreReadBy asked.now result }
+{
+    let (script, other) = match asked {
+        Request::Run(Running { script, .. })
+        | Request::Outcomes(OutcomesAsked { script, .. })
+        | Request::Seek(Seeking { script, .. })
+        | Request::Check(script) => (Some(*script), None),
+        Request::OfJournal(
+            OfJournal {
+                script,
+                journal,
+                ..
+            },
+        ) => (Some(*script), *journal),
+        Request::Play(file) | Request::WhyScript(file) | Request::WhyShort(file) => {
+            (None, Some(*file))
+        }
+        Request::Meet(_) | Request::Explain(_) | Request::Version => (None, None),
+    };
+    FilesRead { script, other }
 }
 
 /// Whether something can be told behind the fault: nothing was written then.
@@ -63,12 +67,33 @@ fn tell_unread<S: Source, E: Write>(source: &S, name: &str, err: &mut E) -> bool
     }
 }
 
-/// Whether the text in the file begins as a journal does, and so is no script.
-fn begins_as_journal(text: &[u8]) -> bool {
-    matches!(text.first(), Some(b'0'..=b'9'))
+/// What `why FILE` tells of the text in the file, where that is no script.
+fn first_fault<S: Source>(
+    alloc: Global,
+    source: &mut S,
+    name: &str,
+) -> Result<Option<Vec<u8>>, Fault>
+    ensures { IfOk result (λ told. IfSome told (λ text. AnswersWhyScript (S.holds source.old) name.now Denied text.items)) }
+{
+    match why_file(alloc, source, name)? {
+        Answer {
+            verdict: Verdict::Denied,
+            text,
+            ..
+        } => Ok(Some(text)),
+        _ => Ok(None),
+    }
 }
 
-/// Tells what `why FILE` tells of the text in the file, where that is no script.
+/// Whether the text in the file begins as a journal does, and so is no script.
+fn begins_as_journal<S: Source>(source: &mut S, name: &str) -> bool {
+    match source.read(name) {
+        Ok(text) => matches!(text.first(), Some(b'0'..=b'9')),
+        Err(_) => false,
+    }
+}
+
+/// Tells what is wrong with the text in the file, where that is no script, and whether it was named in another's place.
 fn tell_script<S: Source, E: Write>(
     alloc: Global,
     source: &mut S,
@@ -76,12 +101,11 @@ fn tell_script<S: Source, E: Write>(
     is_first: bool,
     err: &mut E,
 ) {
-    let Ok(text) = source.read(name) else { return };
-    let Ok(Some(told)) = why_not(alloc, &text) else {
-        return
+    let Ok(Some(told)) = first_fault(alloc, source, name) else {
+        return;
     };
     let _ = err.write_all(&told);
-    if is_first && begins_as_journal(&text) {
+    if is_first && begins_as_journal(source, name) {
         let _ = writeln!(
             err,
             "help: {name} begins as a journal does, and the script is named first"

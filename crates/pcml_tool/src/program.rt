@@ -18,7 +18,7 @@ ghost use Rattle.pcml_tool.specs.Faults.{status_of};
 ghost use Rattle.pcml_tool.specs.Run.{TellsAsked};
 
 use crate::answer::{Advice, Answer, BehindRun, Verdict};
-use crate::behind::{FilesRead, is_of_reading, tell_behind};
+use crate::behind::{FilesRead, files_of, is_of_reading, tell_behind};
 use crate::fault::Fault;
 use crate::from_files::{
     answer_journal, check_file, play_file, read_script, read_source, why_file, why_short_file,
@@ -320,7 +320,7 @@ pub fn command<R: Threads + Wait + Sync, S: Source, O: Write, E: Write, W: Watch
             return BAD_WORDS;
         }
     };
-    let files = FilesRead::of(&asked);
+    let files = files_of(&asked);
     match respond(rt, alloc, asked, source, out, err, watch) {
         Ok(Verdict::Done) => DONE,
         Ok(Verdict::Unlawful) => UNLAWFUL,
