@@ -12,8 +12,8 @@ pub(crate) enum Verdict {
     Done,
     /// The journal that was to be replayed is no run.
     Unlawful,
-    /// The text that was to be a script is none; or what was asked of a script's outcomes is not so, or not known; or
-    /// the journal of an outcome was to be kept that is not there.
+    /// The text that was to be a script is none. Or what was asked of a script's outcomes is not so, or not known. Or the
+    /// journal of an outcome was to be kept that is not there.
     Denied,
     /// A process that had to end has not, or does not in some outcome, or is left behind; or one has faulted.
     Lacking,

@@ -60,7 +60,7 @@ impl Fault {
         }
     }
 
-    /// The number that it is told with, if it is told with one: a name that is no process's is told as words that are
+    /// The number that it is told with, if it is told with one. A name that is no process's is told as words that are
     /// not understood, and a journal that is no run as `replay` tells it.
     pub fn number(&self) -> Option<u16>
         ensures value { result ≡ number_of self.now }

@@ -113,8 +113,8 @@ fn why_asked(
     }
 }
 
-/// Keeps the lines of a run in a file, where one is named, and gives what is printed: the lines alone, or the lines,
-/// unless it is quiet, the rest, and why the processes stand so. There is room for all of it before the file is written.
+/// Keeps the lines of a run in a file, where one is named, and gives what is printed. That is the lines alone; or the
+/// lines, unless it is quiet, the rest, and why the processes stand so. There is room for all before the file is written.
 fn keep_run<S: Source>(
     source: &mut S,
     ran: RunText,
@@ -143,7 +143,7 @@ fn keep_run<S: Source>(
 }
 
 /// So many bytes are asked for and given back before a run. The C library gives a larger block back to the system when it is
-/// freed, until one of up to 32 MiB was: from then on it keeps what a run frees, and the next list has its pages.
+/// freed, until one of up to 32 MiB was. From then on it keeps what a run frees, and the next list has its pages.
 const KEPT_BYTES: usize = (32 << 20) - (64 << 10);
 
 /// Makes the C library keep what is freed. Where it has no such memory, or is another one, nothing is lost.
@@ -287,11 +287,15 @@ fn respond<R: Threads + Wait + Sync, S: Source, O: Write, E: Write, W: Watch>(
     Ok(verdict)
 }
 
-/// Does what the words behind the program's name ask for, and answers the status: 0, or 1 after a
-/// fault, for a journal that is no run, where it is told why a text is no script, or where what was asked of a script's
-/// outcomes is not so or not known, 2 after words that are not understood, after a name that no process has and after a
-/// wish for help, or 3 where a process that had to end has not, or does not in some outcome, or is left behind, or one has faulted. A fault is
-/// a line on the error stream, behind which stands what is wrong with a file; whether that stream takes it changes nothing. Who watches is told how far a search is.
+/// Does what the words behind the program's name ask for, and answers the status.
+///
+/// It is 0 where all went well. It is 1 after a fault, for a journal that is no run, and where it is told why a text is no
+/// script; also where what was asked of a script's outcomes is not so or not known. It is 2 after words that are not
+/// understood, a name that no process has, and a wish for help. It is 3 where a process that had to end has not, does not
+/// in some outcome, or is left behind, and where one has faulted.
+///
+/// A fault is a line on the error stream, behind which stands what is wrong with a file. Whether that stream takes it
+/// changes nothing. Who watches is told how far a search is.
 pub fn command<R: Threads + Wait + Sync, S: Source, O: Write, E: Write, W: Watch>(
     rt: &R,
     alloc: Global,
