@@ -12,7 +12,8 @@ use Rattle.script_tree.specs.declared.tree.Block.{Block as Tree}
 use Rattle.pcml_files.specs.Files.{Fits}
 use Rattle.pcml_request.specs.Requests.{all_rows}
 use Rattle.pcml_request.specs.declared.request.OfJournal.{OfJournal}
-use Rattle.pcml_tool.specs.Command.{AreTreesOf, FailsJournal, FailsOf, Files}
+use Rattle.std.specs.Option.{option_copied}
+use Rattle.pcml_tool.specs.Command.{AreTreesOf, FailsJournal, FailsOf, Files, HoldsJournal}
 use Rattle.pcml_tool.specs.declared.fault.Fault.{Fault}
 use Rattle.pcml_tool.specs.declared.fault.Fault.TheVariants as faults
 
@@ -24,7 +25,7 @@ pub are_trees : (source : List ℕ) (script : SeenScript) → AreLined source (t
 are_trees source script lined = record { same = bodies_seen script.processes.items; lined = lined }
 
 -- a fault of what was read is one of the request
-pub fails_journal : (Holds : Files) (asked : OfJournal) (source read : List ℕ) (s : Script) → Holds asked.script.now source → Spells source s → Holds asked.journal.now read → Fits read →
+pub fails_journal : (Holds : Files) (asked : OfJournal) (source read : List ℕ) (s : Script) → Holds asked.script.now source → Spells source s → HoldsJournal Holds (option_copied asked.journal) read → Fits read →
     (fault : Fault) → FailsOf asked.question s (all_rows asked.rows asked.seasons) read fault → FailsJournal Holds asked fault
 fails_journal Holds asked source read s holds spells has fits (faults.Journal its) says = (source, holds, s, spells, read, has, (fits, says))
 fails_journal Holds asked source read s holds spells has fits (faults.Chart its) says = (source, holds, s, spells, read, has, (fits, says))

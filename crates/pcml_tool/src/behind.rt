@@ -56,15 +56,22 @@ pub(crate) fn is_of_reading(fault: &Fault) -> bool
     }
 }
 
-/// Whether the file can be read again. Where it cannot be read at all, the reason is told.
-fn tell_unread<S: Source, E: Write>(source: &S, name: &str, err: &mut E) -> bool {
-    match source.can_be_read_again(name) {
-        Ok(again) => again,
-        Err(error) => {
-            let _ = writeln!(err, "cannot read {name}: {error}");
-            false
-        }
+/// Tells why the file cannot be read, where it cannot.
+fn tell_unread<S: Source, E: Write>(source: &S, name: Option<&str>, err: &mut E) {
+    let Some(name) = name else { return };
+    if let Err(error) = source.can_be_read_again(name) {
+        let _ = writeln!(err, "cannot read {name}: {error}");
     }
+}
+
+/// Tells which file has more bytes than are read.
+fn tell_large<E: Write>(name: &str, err: &mut E) {
+    let name = if name == "-" {
+        "the standard input"
+    } else {
+        name
+    };
+    let _ = writeln!(err, "{name} has more than {MOST_BYTES} bytes");
 }
 
 /// What `why FILE` tells of the text in the file, where that is no script.
@@ -121,16 +128,16 @@ pub(crate) fn tell_behind<S: Source, E: Write>(
     fault: &Fault,
     err: &mut E,
 ) {
-    if let (Fault::TooLarge, Some(name)) = (fault, files.other) {
-        let _ = writeln!(err, "{name} has more than {MOST_BYTES} bytes");
-        return;
-    }
-    if let Some(name) = files.other {
-        tell_unread(source, name, err);
-    }
-    if let Some(name) = files.script {
-        if tell_unread(source, name, err) {
-            tell_script(alloc, source, name, files.other.is_some(), err);
+    match (fault, files.script, files.other) {
+        (Fault::Script(_), Some(name), other) => {
+            if let Ok(true) = source.can_be_read_again(name) {
+                tell_script(alloc, source, name, other.is_some(), err);
+            }
+        }
+        (Fault::TooLarge, _, Some(name)) => tell_large(name, err),
+        (_, script, other) => {
+            tell_unread(source, script, err);
+            tell_unread(source, other, err);
         }
     }
 }

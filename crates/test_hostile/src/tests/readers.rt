@@ -209,7 +209,15 @@ impl Files for Disk {
 /// Words, and what the program prints and tells of them.
 type Asked = (&'static [&'static str], &'static str, &'static str);
 
-/// What the program tells of a request over files, on either stream.
+/// The first line of a text, with its end.
+fn first_line(text: &[u8]) -> &[u8] {
+    match text.iter().position(|byte| *byte == b'\n') {
+        Some(at) => &text[..=at],
+        None => text,
+    }
+}
+
+/// What the program tells of a request over files, on either stream: on the error stream first.
 fn tells<R: Abort + AllocGlobal + Threads + Wait + Sync, S: Source>(
     rt: &R,
     source: &mut S,
@@ -219,7 +227,7 @@ fn tells<R: Abort + AllocGlobal + Threads + Wait + Sync, S: Source>(
 ) -> Result<(), AllocError> {
     let alloc = rt.alloc();
     let mut printed = Vec::with_capacity(alloc, 64)?;
-    let mut told = Vec::with_capacity(alloc, 64)?;
+    let mut told = Vec::with_capacity(alloc, 4096)?;
     let status = command(
         rt,
         alloc,
@@ -230,7 +238,7 @@ fn tells<R: Abort + AllocGlobal + Threads + Wait + Sync, S: Source>(
         &mut Unwatched,
     );
     let request = words.last().copied().unwrap_or("");
-    check_same(rt, told.as_slice(), err.as_bytes(), request);
+    check_same(rt, first_line(told.as_slice()), err.as_bytes(), request);
     check_same(rt, printed.as_slice(), out.as_bytes(), request);
     check_same(rt, status, u8::from(!err.is_empty()), request);
     Ok(())

@@ -2,6 +2,8 @@ use Rattle.std.proofs.Common.{ℕ, List, subst, sym}
 use Rattle.script.specs.Lines.{trees_of_script}
 use Rattle.script.specs.Scripts.{script_of}
 use Rattle.pcml_tool.specs.Command.{AreTreesOf, FailsJournal, FailsOf, TellsOf}
+use Rattle.std.specs.Option.{option_copied}
+use Rattle.pcml_tool.proofs.Keeping.{journal_on}
 use Rattle.pcml_tool.proofs.Whys.{fails_journal}
 use Rattle.pcml_tool.proofs.from_files.answer_journal.Goals as goal
 
@@ -24,7 +26,7 @@ returns-clause-done g c =
       s,
       found.1,
       read,
-      c.read_source.ensures.kept asked.journal.now read has.0,
+      journal_on (g.S.Source.holds c.args.source.now) (g.S.Source.holds c.read_source.new.source) (option_copied asked.journal) read c.read_source.ensures.kept has.0,
       has.1,
       told,
       subst (λ (z : List ℕ × List ℕ × ℕ). TellsOf asked.question s z.0 z.2 z.1 told) (λ i. (c.deref.ensures.value i, c.deref-2.ensures.value i, c.all_rows-rows.ensures.value i)) c.in_ok-told.ensures.told,

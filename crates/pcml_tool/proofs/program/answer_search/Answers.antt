@@ -4,6 +4,7 @@ use Rattle.std.specs.Prelude.{is_some}
 use Rattle.script.specs.Scripts.{script_of}
 use Rattle.pcml_outcomes.specs.declared.finding.Finding.{Finding}
 use Rattle.pcml_outcomes.specs.Told.{TellsOutcomes, bytes_of}
+use Rattle.pcml_tool.specs.Command.{printed_of}
 use Rattle.pcml_tool.specs.Searching.{verdict_of}
 use Rattle.pcml_tool.proofs.Keeping.{kept_on}
 use Rattle.pcml_tool.proofs.program.answer_search.Goals as goal
@@ -37,5 +38,5 @@ returns-clause-done g c =
       is_kept = told.is.journal;
       kept = kept_on (holds c.args.source.now) (holds c.read_script.new.source) (holds c.keep_outcome.new.source) name lines c.read_script.ensures.kept kept.kept;
       so = kept.verdict ∙ ap (λ (finding : Finding). verdict_of finding (is_some search.of) (is_some lines)) told.is.finding_is;
-      is = kept.printed ∙ told.is.text;
+      is = kept.printed ∙ ap (printed_of search.alone lines) told.is.text;
     }
