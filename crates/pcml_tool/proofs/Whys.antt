@@ -1,5 +1,5 @@
 -- The trees of a script that was read, and what a fault says of a script and a journal.
-use Rattle.std.proofs.Common.{◌≡◌, ℕ, List, [], ◌∷◌, map, ap, refl, subst, sym}
+use Rattle.std.proofs.Common.{◌≡◌, ℕ, List, [], ◌∷◌, map, ap, refl}
 use Rattle.script.specs.Lines.{AreLined, trees_of_script}
 use Rattle.script.specs.Scripts.{script_of}
 use Rattle.script.specs.Sources.{Script}
@@ -8,7 +8,6 @@ use Rattle.script.specs.declared.script.Script.{Script as SeenScript}
 use Rattle.script_tree.specs.Processes.{Proc, proc_of, tree_of}
 use Rattle.script_tree.specs.Trees.{Block, block_of}
 use Rattle.script_tree.specs.declared.process.Proc.{Proc as SeenProc}
-use Rattle.script_tree.specs.declared.tree.Block.{Block as Tree}
 use Rattle.pcml_files.specs.Files.{Fits}
 use Rattle.pcml_request.specs.Requests.{all_rows}
 use Rattle.pcml_request.specs.declared.request.OfJournal.{OfJournal}

@@ -330,26 +330,31 @@ pub fn command<R: Threads + Wait + Sync, S: Source, O: Write, E: Write, W: Watch
         Ok(Verdict::Unlawful) => UNLAWFUL,
         Ok(Verdict::Denied) => DENIED,
         Ok(Verdict::Lacking) => LACKING,
-        Err(fault) if is_of_reading(&fault) => tell_whole(alloc, source, files, err, fault),
         Err(fault) => {
             watch.end();
-            tell(err, fault)
+            tell_whole(alloc, source, files, err, fault)
         }
     }
 }
 
-/// Tells a fault of reading these files, and behind its line what is wrong with them. It answers the fault's status.
+/// Tells a fault, and where it is of reading these files, behind its line what is wrong with them. It answers the fault's
+/// status.
 fn tell_whole<S: Source, E: Write>(
     alloc: Global,
     source: &mut S,
-    files: FilesRead<'_>,
+    named: FilesRead<'_>,
     err: &mut E,
     fault: Fault,
 ) -> u8
-    ensures { result ≡ status_of fault }
+    ensures status { result ≡ status_of fault }
+    // What was written stands where it stood.
+    ensures kept { fault ≡ faults.File files.Unwritten → source.new ≡ source.old }
 {
     let _ = writeln!(err, "{fault}");
-    tell_behind(alloc, source, files, &fault, err);
+    if !is_of_reading(&fault) {
+        return fault.status();
+    }
+    tell_behind(alloc, source, named, &fault, err);
     fault.status()
 }
 

@@ -1,10 +1,9 @@
 use Rattle.std.proofs.Common.{ℕ, List, subst, sym}
 use Rattle.script.specs.Lines.{trees_of_script}
 use Rattle.script.specs.Scripts.{script_of}
-use Rattle.pcml_tool.specs.Command.{AreTreesOf, FailsJournal, FailsOf, TellsOf}
+use Rattle.pcml_tool.specs.Command.{AreTreesOf, TellsOf}
 use Rattle.std.specs.Option.{option_copied}
 use Rattle.pcml_tool.proofs.Keeping.{journal_on}
-use Rattle.pcml_tool.proofs.Whys.{fails_journal}
 use Rattle.pcml_tool.proofs.from_files.answer_journal.Goals as goal
 
 pub told_of-requires-clause-trees : goal.told_of-requires-clause-trees

@@ -1,4 +1,4 @@
-use Rattle.std.proofs.Common.{◌≡◌, inl, inr, ℕ, List, length, Option, Some, None, ap, subst, arith}
+use Rattle.std.proofs.Common.{inl, inr, ℕ, List, length, Option, Some, None, ap, subst, arith}
 use Rattle.std.specs.Option.{option_map}
 use Rattle.pcml_files.specs.Files.{IsReadOf}
 use Rattle.script_mistakes.specs.Telling.{TellsWhyNot}

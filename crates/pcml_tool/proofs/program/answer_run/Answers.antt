@@ -69,7 +69,7 @@ returns-clause-done g c =
       so = c.verdict_by-verdict.ensures ∙ ap (verdict_by (marks_of c.in_ok-needed.needed)) c.deref.ensures.value;
       why = why;
       told = subst (λ (z : List ℕ × ℕ). TellsWhyAsked asked.why s z.0 z.1 ran.commits.items why) (λ i. (c.deref-2.ensures.value i, c.all_rows-rows.ensures.value i)) c.in_ok-why.ensures.told;
-      is = c.in_ok-text.ensures.printed ∙ ap (λ (w : List ℕ). printed_of asked.alone (Some ran.lines.items) (printed asked.quiet ran.lines.items ran.rest.items ++ w)) c.deref-3.ensures.value;
+      is = c.in_ok-text.ensures.printed ∙ ap (λ (w : List ℕ). printed_of asked.alone (Some ran.lines.items) (printed asked.quiet ran.lines.items ran.rest.items ++ w)) c.deref-4.ensures.value;
     }
 
 pub returns-in_err-ran-clause-fault : goal.returns-in_err-ran-clause-fault

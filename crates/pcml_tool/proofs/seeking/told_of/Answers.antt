@@ -1,6 +1,5 @@
-use Rattle.std.proofs.Common.{List, Bool, ap, length, subst, ◌∙◌}
+use Rattle.std.proofs.Common.{List, Bool, ap, length, ◌∙◌}
 use Rattle.script.specs.Scripts.{script_of}
-use Rattle.pcml_outcomes.specs.Left.{TellsLeft}
 use Rattle.pcml_texts.proofs.Columns.{each-named}
 use Rattle.pcml_tool.proofs.seeking.told_of.Goals as goal
 
