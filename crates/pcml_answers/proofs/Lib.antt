@@ -10,3 +10,4 @@ mod Refusing
 pub mod Lines
 pub mod Following
 mod Wording
+pub mod Columns

@@ -15,7 +15,7 @@ use Rattle.pcml_outcomes.specs.Stranding.{AreLostIn, judged}
 use Rattle.pcml_outcomes.specs.Told.{AreFoundIn, NamesNeeded, finding, looks, outcomes_text}
 use Rattle.pcml_outcomes.specs.declared.finding.Finding.{Finding}
 use Rattle.pcml_outcomes.specs.declared.finding.Finding.TheVariants as findings
-use Rattle.pcml_texts.specs.Searching.{IsAskedOf, MisnamesAsked}
+use Rattle.pcml_outcomes.specs.Searching.{IsAskedOf, MisnamesAsked}
 use Rattle.pcml_check_c.specs.Names.{Wants, given}
 use Rattle.pcml_check_c.specs.declared.told.Code.{Code}
 use Rattle.pcml_check_c.specs.declared.told.Code.TheVariants.{Done, Open, Stranded, Stuck}

@@ -7,8 +7,7 @@ use crate::names::{names_in, wanted_by};
 use crate::refusal::Refusal;
 use crate::told::{Code, Told};
 use outcomes::Unwatched;
-use pcml_outcomes::{Finding, outcomes_text};
-use pcml_texts::asked_of;
+use pcml_outcomes::{Finding, asked_of, outcomes_text};
 use script::parse;
 use std::alloc::Global;
 

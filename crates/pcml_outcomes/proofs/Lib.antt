@@ -9,3 +9,4 @@ mod Faulting
 mod Printing
 mod Several
 mod Meaning
+pub mod Either

@@ -5,3 +5,4 @@ pub mod Forever
 pub mod Faults
 pub mod Printed
 pub mod Seeking
+pub mod Searching

@@ -1,3 +1,2 @@
 pub mod Replaying
 pub mod Judging
-pub mod Columns

@@ -4,4 +4,3 @@ pub mod Chart
 pub mod Why
 pub mod Next
 pub mod Stats
-pub mod Searching

@@ -6,7 +6,7 @@ use Rattle.outcomes.specs.declared.asked.Asked.{Asked}
 use Rattle.pcml_request.specs.declared.request.OutcomesAsked.{OutcomesAsked}
 use Rattle.pcml_outcomes.specs.declared.finding.Finding.{Finding}
 use Rattle.pcml_outcomes.specs.declared.finding.Finding.TheVariants.{Clear, Open, Stranded, Stuck}
-use Rattle.pcml_texts.specs.Searching.{IsAskedOf, MisnamesAsked}
+use Rattle.pcml_outcomes.specs.Searching.{IsAskedOf, MisnamesAsked}
 use Rattle.pcml_tool.specs.declared.fault.Fault.{Fault}
 use Rattle.pcml_tool.specs.declared.fault.Fault.TheVariants as faults
 use Rattle.pcml_tool.specs.declared.answer.Verdict.{Verdict}

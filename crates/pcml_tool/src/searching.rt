@@ -38,7 +38,7 @@ pub(crate) fn asked_of(
     ensures sought { IfOk result (λ asked. length (sought asked.told asked.named.items) ≡ length (script_of script.now).processes) }
     ensures fault { IfErr result (FailsAsked (script_of script.now) search.now) }
 {
-    let asked = pcml_texts::asked_of(alloc, script, search.wanted, search.only, search.first)?;
+    let asked = pcml_outcomes::asked_of(alloc, script, search.wanted, search.only, search.first)?;
     Ok(asked)
 }
 

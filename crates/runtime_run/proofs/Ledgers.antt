@@ -9,7 +9,8 @@ use Rattle.thread.specs.Machines.{Broken, IsAfterAt, Open, Over, Phase, Ready, S
 use Rattle.protocol_ledger.specs.Acting.{ActsAs, Before, IsStarted, StartedBefore, StartedBy, acts_in, before_of}
 use Rattle.protocol_ledger.specs.Ledgers.{IsLawful, Ledger, ledger_of}
 use Rattle.protocol_ledger.specs.Openings.{HadStarted, start_opening}
-use Rattle.protocol_ledger.specs.Worlds.{start_world, waits}
+use Rattle.protocol_ledger.specs.Tables.{thread_len}
+use Rattle.protocol_ledger.specs.Worlds.{start_world, waits, with_lives}
 use Rattle.protocol_ledger.proofs.Acting.{ends-first, first_started, first_unended, starts-first}
 use Rattle.protocol_ledger.proofs.LedgerLemmas.{kept_start, lawful_ledger, start_greatest}
 use Rattle.protocol_ledger.proofs.Standing.{stands-ledger, stands-start}
@@ -164,3 +165,8 @@ empty_ledger = (
   },
   refl,
 )
+
+-- the words of such a world
+pub nothing_done : (words : List ℕ) → words ≡ with_lives 0 1 1 (replicate (1 * thread_len 1) 0) → ledger_of (record { threads = 1; rows = 1; words = words; opening = 0 }) ≡ ledger_of (start_world 1 1 1 0).table
+unfolding start_world
+nothing_done words is = ap (λ (ws : List ℕ). ledger_of (record { threads = 1; rows = 1; words = ws; opening = 0 })) is

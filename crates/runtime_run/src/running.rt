@@ -31,8 +31,7 @@ use cell::{Cells, Pass, StepGate};
 use journal::{Record, conclude};
 use meet::Meet;
 use meet_queues::Ready;
-use protocol::World;
-use protocol_ledger::Ledger;
+use protocol_ledger::{Ledger, start_words};
 use runtime_worker::{Activity, Crew, Gate, Halt, Notes, Shared, Suspended};
 use script::Script;
 use script_tree::{Proc, spawned};
@@ -185,8 +184,8 @@ fn no_commits(alloc: Global) -> Result<Ledger, RunFault>
     ensures lawful { IfOk result (λ l. IsLawful l × IsLedgerOf [] l × (l.rows ≡ 1)) }
     ensures faults { (result ≢ Err Workers) × (result ≢ Err Rows) }
 {
-    match World::start(alloc, 1, 1, 1) {
-        Ok(world) => Ok(world.ledger()),
+    match start_words(alloc, 1, 1, 0) {
+        Ok(words) => Ok(Ledger::of_words(1, 1, words, 0)),
         Err(_) => Err(RunFault::Memory),
     }
 }

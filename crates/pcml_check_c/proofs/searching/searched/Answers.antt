@@ -2,7 +2,7 @@ use Rattle.std.proofs.Common.{◌∙◌, ℕ, List, None, Option, ap, false, ref
 use Rattle.script.specs.Scripts.{script_of}
 use Rattle.pcml_outcomes.specs.Told.{TellsOutcomes}
 use Rattle.pcml_outcomes.specs.declared.finding.Finding.{Finding}
-use Rattle.pcml_texts.specs.Searching.{IsAskedOf}
+use Rattle.pcml_outcomes.specs.Searching.{IsAskedOf}
 use Rattle.pcml_check_c.specs.Names.{Wants}
 use Rattle.pcml_check_c.specs.Outcomes.{code_of_finding, rows_of}
 use Rattle.pcml_check_c.proofs.searching.searched.Goals as goal

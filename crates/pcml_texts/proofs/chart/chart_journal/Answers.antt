@@ -6,7 +6,7 @@ use Rattle.pcml_answers.specs.Needs.{named_or_all}
 use Rattle.pcml_texts.specs.Chart.{Draws}
 use Rattle.pcml_texts.specs.Replay.{LeadsTo, Reaches}
 use Rattle.pcml_texts.specs.declared.reach.Reached.{Reached}
-use Rattle.pcml_texts.proofs.Columns.{each-column}
+use Rattle.pcml_answers.proofs.Columns.{each-column}
 use Rattle.pcml_texts.proofs.chart.chart_journal.Goals as goal
 
 pub drawn-requires-clause-threads : goal.drawn-requires-clause-threads

@@ -1,25 +1,11 @@
--- A mark for each process.
-use Rattle.std.proofs.Common.{◌≡◌, ◌∙◌, ◌||◌, List, [], ◌∷◌, ℕ, zero, suc, Bool, Option, Some, None, ap, arith, if◌then◌else◌, length, refl, sym, true, false}
+-- Two marks for each process.
+use Rattle.std.proofs.Common.{◌≡◌, ◌∙◌, ◌||◌, List, [], ◌∷◌, ℕ, zero, suc, Bool, Some, ap, arith, length, refl, sym, true, false}
 use Rattle.std.specs.List.{zip}
-use Rattle.std.specs.Prelude.{replicate, slice_get}
+use Rattle.std.specs.Prelude.{slice_get}
 use Rattle.std.proofs.lemmas.Option.{none-some, same_Some}
-use Rattle.pcml_texts.specs.Searching.{either}
-use Rattle.std.proofs.lemmas.List.{length-map, length-replicate}
+use Rattle.std.proofs.lemmas.List.{length-map}
 use Rattle.script.specs.Sources.{Script}
-use Rattle.pcml_answers.specs.Needs.{are_in, is_in, named_by, named_or_all, names_all}
-
-either-way : (s : Script) (names : List ℕ) (b : Bool) → length (if b then replicate (length s.processes) true else are_in s names) ≡ length s.processes
-either-way s names true = length-replicate (length s.processes) true
-either-way s names false = length-map s.processes (λ p. is_in p.name names)
-
-pub each-named : (s : Script) (names : List ℕ) → length (named_by s names) ≡ length s.processes
-each-named s names = either-way s names (names_all names)
-
-pub each-column : (s : Script) (only : Option (List ℕ)) → length (named_or_all s only) ≡ length s.processes
-each-column s None = length-replicate (length s.processes) true
-each-column s (Some names) = each-named s names
-
--- two marks for each process
+use Rattle.pcml_outcomes.specs.Searching.{either}
 
 pub length-zip : {A B : Type 0} (xs : List A) (ys : List B) → length xs ≡ length ys → length (zip xs ys) ≡ length xs
 length-zip [] [] same = refl

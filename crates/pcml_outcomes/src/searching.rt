@@ -7,7 +7,7 @@ ghost use Rattle.script.specs.Scripts.{script_of};
 ghost use Rattle.outcomes.specs.declared.asked.Told.{Told as WhichTold};
 ghost use Rattle.pcml_outcomes.specs.Stranding.{sought};
 ghost use Rattle.pcml_outcomes.specs.Told.{NamesNeeded};
-ghost use Rattle.pcml_texts.specs.Searching.{IsAskedOf, MisnamesAsked};
+ghost use Rattle.pcml_outcomes.specs.Searching.{IsAskedOf, MisnamesAsked};
 
 use outcomes::{Asked, Told};
 use pcml_answers::{NamesFault, named_or_all, named_processes};

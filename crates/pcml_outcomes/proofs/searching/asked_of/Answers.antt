@@ -6,9 +6,10 @@ use Rattle.outcomes.specs.declared.asked.Told.{Told}
 use Rattle.outcomes.specs.declared.asked.Told.TheVariants.{Lacking}
 use Rattle.pcml_answers.specs.Needs.{named_or_all}
 use Rattle.pcml_request.specs.declared.request.Wanted.{Wanted}
-use Rattle.pcml_texts.specs.Searching.{Asks, either}
-use Rattle.pcml_texts.proofs.Columns.{each-column, each-either, each-named, either-second}
-use Rattle.pcml_texts.proofs.searching.asked_of.Goals as goal
+use Rattle.pcml_outcomes.specs.Searching.{Asks, either}
+use Rattle.pcml_answers.proofs.Columns.{each-column, each-named}
+use Rattle.pcml_outcomes.proofs.Either.{each-either, either-second}
+use Rattle.pcml_outcomes.proofs.searching.asked_of.Goals as goal
 
 -- the marks of those that have to end
 abbrev needed-in : Told → List Bool
