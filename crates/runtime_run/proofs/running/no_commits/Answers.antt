@@ -8,7 +8,7 @@ use Rattle.runtime_run.proofs.Ledgers.{empty_ledger, nothing_done}
 use Rattle.runtime_run.proofs.running.no_commits.Goals as goal
 
 pub of_words-requires-clause-sized : goal.of_words-requires-clause-sized
-of_words-requires-clause-sized c = ap length c.in-Ok.ensures ∙ length_lives 1 1 0 (replicate (1 * thread_len 1) 0) 1 ∙ length-replicate (1 * thread_len 1) 0
+of_words-requires-clause-sized c = ap length c.in-Ok.ensures ∙ length_lives 0 1 (replicate (1 * thread_len 1) 0) 1 ∙ length-replicate {A = ℕ} (1 * thread_len 1) 0
 
 pub of_words-requires-clause-lawful : goal.of_words-requires-clause-lawful
 of_words-requires-clause-lawful c = lawful_start 1 1 0 c.in-Ok.words.items (omega arith) (omega arith) c.in-Ok.ensures
