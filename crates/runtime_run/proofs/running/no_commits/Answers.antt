@@ -1,4 +1,4 @@
-use Rattle.std.proofs.Common.{◌≡◌, ◌*◌, ℕ, List, [], length, replicate, ap, arith, sym, subst, ◌∙◌}
+use Rattle.std.proofs.Common.{◌≡◌, ◌*◌, ℕ, [], length, replicate, ap, arith, sym, subst, ◌∙◌}
 use Rattle.std.proofs.lemmas.List.{length-replicate}
 use Rattle.protocol_ledger.specs.Ledgers.{IsLawful, Ledger}
 use Rattle.protocol_ledger.specs.Tables.{thread_len}
