@@ -2,16 +2,17 @@
 
 use crate::words::Asked;
 use journal::Record;
-use journal_replay::{End, ReplayFault, State, replay};
+use journal_replay::{ReplayFault, State, replay};
 use journal_text::{JournalFault, push_atom, read_journal, write_journal};
 use protocol_values::Atom;
-use runtime::{OpenGate, run};
+use runtime_run::{OpenGate, run};
 use script::{Script, ScriptFault, parse};
 use std::alloc::{AllocError, Global};
 use std::fs;
 use std::rt::Files;
 use std::sync::Wait;
 use std::thread::Threads;
+use thread::End;
 
 /// No file is read that has more bytes.
 const MOST: u64 = 16_777_216;
