@@ -3,10 +3,10 @@
 use crate::words::Asked;
 use journal::Record;
 use journal_replay::{ReplayFault, State, replay};
-use journal_text::{JournalFault, push_atom, read_journal, write_journal};
+use journal_text::{push_atom, read_journal, write_journal};
 use protocol_values::Atom;
 use runtime_run::{OpenGate, run};
-use script::{Script, ScriptFault, parse};
+use script::{Script, parse};
 use std::alloc::{AllocError, Global};
 use std::fs;
 use std::rt::Files;
@@ -17,64 +17,39 @@ use thread::End;
 /// No file is read that has more bytes.
 const MOST: u64 = 16_777_216;
 
-/// What comes of what was asked.
+/// A text on the output, and the status.
 #[derive(Drop)]
-pub(crate) enum Answer {
-    /// A text on the output, and the status.
-    Printed(String, u8),
-    /// A fault on the error stream. The status is 1.
-    Fault(String),
+pub(crate) struct Answer {
+    pub(crate) text: String,
+    pub(crate) status: u8,
 }
-
-/// An answer, or none where it is left to the whole program, as where memory is lacking.
-type Taken = Result<Answer, Option<Answer>>;
 
 /// Leaves to the whole program what lacks memory.
-fn or_left<T>(made: Result<T, AllocError>) -> Result<T, Option<Answer>> {
+fn or_left<T>(made: Result<T, AllocError>) -> Option<T> {
     match made {
-        Ok(value) => Ok(value),
-        Err(_) => Err(None),
-    }
-}
-
-fn fault(alloc: Global, number: u8) -> Option<Answer> {
-    match format!(in alloc; "fault {number}") {
-        Ok(text) => Some(Answer::Fault(text)),
-        Err(_) => None,
-    }
-}
-
-fn fault_at(alloc: Global, number: u8, line: usize) -> Option<Answer> {
-    match format!(in alloc; "fault {number} line {line}") {
-        Ok(text) => Some(Answer::Fault(text)),
+        Ok(value) => Some(value),
         Err(_) => None,
     }
 }
 
 /// The bytes of a regular file that is not too large. All others are left to the whole program.
-fn read<R: Files + AllocGlobal>(rt: &R, name: &str) -> Result<Vec<u8>, Option<Answer>> {
+fn read<R: Files + AllocGlobal>(rt: &R, name: &str) -> Option<Vec<u8>> {
     match fs::metadata(rt, name) {
         Ok(found) if found.is_file() && found.len() <= MOST => {}
-        _ => return Err(None),
+        _ => return None,
     }
     match fs::read(rt, name) {
-        Ok(bytes) => Ok(bytes),
-        Err(_) => Err(None),
+        Ok(bytes) => Some(bytes),
+        Err(_) => None,
     }
 }
 
-fn read_script<R: Files + AllocGlobal>(rt: &R, name: &str) -> Result<Script, Option<Answer>> {
-    let alloc = rt.alloc();
+/// The script in a file. What is none is left to the whole program, which tells why.
+fn read_script<R: Files + AllocGlobal>(rt: &R, name: &str) -> Option<Script> {
     let bytes = read(rt, name)?;
-    match parse(alloc, bytes.as_slice()) {
-        Ok(script) => Ok(script),
-        Err(ScriptFault::Memory) => Err(None),
-        Err(ScriptFault::Syntax(line)) => Err(fault_at(alloc, 11, line)),
-        Err(ScriptFault::UnknownName(line)) => Err(fault_at(alloc, 12, line)),
-        Err(ScriptFault::Twice(line)) => Err(fault_at(alloc, 13, line)),
-        Err(ScriptFault::TooMany(line)) => Err(fault_at(alloc, 14, line)),
-        Err(ScriptFault::LoopWithoutSync(line)) => Err(fault_at(alloc, 15, line)),
-        Err(ScriptFault::TooLong) => Err(fault(alloc, 16)),
+    match parse(rt.alloc(), bytes.as_slice()) {
+        Ok(script) => Some(script),
+        Err(_) => None,
     }
 }
 
@@ -140,11 +115,10 @@ fn replay_text(
     Ok(text)
 }
 
-fn answer_replay(alloc: Global, script: &Script, bytes: &[u8], rows: u16) -> Taken {
+fn answer_replay(alloc: Global, script: &Script, bytes: &[u8], rows: u16) -> Option<Answer> {
     let commits = match read_journal(alloc, script, bytes) {
         Ok(commits) => commits,
-        Err(JournalFault::Memory) => return Err(None),
-        Err(JournalFault::BadLine(line)) => return Err(fault_at(alloc, 21, line)),
+        Err(_) => return None,
     };
     match replay(
         alloc,
@@ -154,25 +128,34 @@ fn answer_replay(alloc: Global, script: &Script, bytes: &[u8], rows: u16) -> Tak
     ) {
         Ok(state) => {
             let text = or_left(replay_text(alloc, script, &state, commits.len()))?;
-            Ok(Answer::Printed(text, 0))
+            Some(Answer { text, status: 0 })
         }
-        Err(ReplayFault::Memory) => Err(None),
+        Err(ReplayFault::Memory) => None,
         Err(ReplayFault::Unlawful(index)) => {
             let line = index.saturating_add(1);
             let text = or_left(format!(in alloc; "unlawful at line {line}\n"))?;
-            Ok(Answer::Printed(text, 1))
+            Some(Answer { text, status: 1 })
         }
     }
 }
 
-fn taken<R: Files + AllocGlobal + Threads + Wait + Sync>(rt: &R, asked: Asked<'_>) -> Taken {
+/// Whether more is to be told of a process that came to this end than its line.
+fn is_told_of(end: End) -> bool {
+    matches!(end, End::Spent | End::Faulted(_))
+}
+
+/// What comes of what was asked; none where it is left to the whole program.
+pub(crate) fn answer_to<R: Files + AllocGlobal + Threads + Wait + Sync>(
+    rt: &R,
+    asked: Asked<'_>,
+) -> Option<Answer> {
     let alloc = rt.alloc();
     match asked {
         Asked::Check { script } => {
             let script = read_script(rt, script)?;
             let (processes, channels) = (script.processes().len(), script.channels());
             let text = or_left(format!(in alloc; "processes {processes} channels {channels}\n"))?;
-            Ok(Answer::Printed(text, 0))
+            Some(Answer { text, status: 0 })
         }
         Asked::Run {
             script,
@@ -182,9 +165,15 @@ fn taken<R: Files + AllocGlobal + Threads + Wait + Sync>(rt: &R, asked: Asked<'_
         } => {
             let script = read_script(rt, script)?;
             let Ok(ran) = run(rt, alloc, &script, workers, rows, &OpenGate) else {
-                return Err(None);
+                return None;
             };
-            Ok(Answer::Printed(or_left(run_text(alloc, &script, &ran, quiet))?, 0))
+            for thread in 0..ran.ends.len() {
+                if is_told_of(ran.ends[thread]) {
+                    return None;
+                }
+            }
+            let text = or_left(run_text(alloc, &script, &ran, quiet))?;
+            Some(Answer { text, status: 0 })
         }
         Asked::Replay {
             script,
@@ -195,16 +184,5 @@ fn taken<R: Files + AllocGlobal + Threads + Wait + Sync>(rt: &R, asked: Asked<'_
             let bytes = read(rt, journal)?;
             answer_replay(alloc, &script, bytes.as_slice(), rows)
         }
-    }
-}
-
-/// What comes of what was asked; none where it is left to the whole program.
-pub(crate) fn answer_to<R: Files + AllocGlobal + Threads + Wait + Sync>(
-    rt: &R,
-    asked: Asked<'_>,
-) -> Option<Answer> {
-    match taken(rt, asked) {
-        Ok(answer) => Some(answer),
-        Err(answer) => answer,
     }
 }

@@ -28,18 +28,12 @@ fn answered<R: Env + Files + AllocGlobal + Threads + Wait + Sync>(
     }
 }
 
-/// Writes the answer on one of the two streams, and gives its status.
+/// Writes the answer, and gives its status.
 fn tell<O: Write, E: Write>(answer: &Answer, out: &mut O, err: &mut E) -> u8 {
-    match answer {
-        Answer::Printed(text, status) => match out.write_all(text.as_bytes()) {
-            Ok(()) => *status,
-            Err(_) => {
-                let _ = writeln!(err, "fault 32");
-                1
-            }
-        },
-        Answer::Fault(text) => {
-            let _ = writeln!(err, "{text}");
+    match out.write_all(answer.text.as_bytes()) {
+        Ok(()) => answer.status,
+        Err(_) => {
+            let _ = writeln!(err, "fault 32");
             1
         }
     }
