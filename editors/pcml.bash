@@ -12,6 +12,42 @@ _pcml_files() {
   _pcml_give '' -f
 }
 
+# The script that the line names: the first word behind the command that is neither an option nor its value.
+_pcml_script() {
+  local word before=
+  for word in "${COMP_WORDS[@]:2}"; do
+    case $before in
+      --workers | --rows | --seasons | --journal | --need | --from | --to | --only | --as | --limit | --left | --never | --of | =) ;;
+      *) [[ $word == [-=]* ]] || { echo "$word" && return; } ;;
+    esac
+    before=$word
+  done
+}
+
+# The names of its processes. What is no file, or longer than a script may be, has none.
+_pcml_processes() {
+  local script
+  script=$(_pcml_script)
+  script=${script//[\'\"\\]/}
+  script=${script/#\~\//$HOME/}
+  if [ -f "$script" ] && [ -r "$script" ] && [ "$(wc -c <"$script")" -le 65536 ]; then
+    LC_ALL=C tr -s '\t\r\n' ' ' <"$script" | LC_ALL=C grep -aoE '\bprocess [A-Za-z][A-Za-z0-9_]*' | cut -d' ' -f2
+  fi
+}
+
+# Of names with commas between the one at the cursor.
+_pcml_names() {
+  local named=
+  [[ $now != *,* ]] || named=${now%,*},
+  now=${now##*,}
+  _pcml_give "$([ -n "$named" ] || echo all) $(_pcml_processes)" -P "$named"
+}
+
+_pcml_printed() {
+  compopt -o nospace 2>/dev/null
+  _pcml_give "$(_pcml_processes)" -S =
+}
+
 # The options of a command.
 _pcml_options() {
   case $1 in
@@ -37,9 +73,10 @@ _pcml() {
     esac
     return
   fi
-  # --rows=4 is three words here.
+  # --rows=4 is three words here, and a=4 too, whose value nobody knows.
   [ "$now" != = ] || now=
   [ "$before" != = ] || before=${COMP_WORDS[COMP_CWORD - 2]}
+  [[ $before == -* || " ${COMP_WORDS[*]:COMP_CWORD-1:2} " != *' = '* ]] || return
   if [[ " ${COMP_WORDS[*]:1:COMP_CWORD-1} " == *' -- '* ]]; then
     _pcml_files
     return
@@ -47,12 +84,11 @@ _pcml() {
   case $before in
     --workers) _pcml_give '1 2 4 8 16' ;;
     --rows) _pcml_give '256 1024' ;;
+    --seasons | --from | --to | --limit | --of) ;;
     --journal) _pcml_files ;;
-    --need) _pcml_give all ;;
-    --only) _pcml_give all ;;
+    --need | --only | --left) _pcml_names ;;
     --as) _pcml_give 'mermaid svg' ;;
-    --left) _pcml_give all ;;
-    --seasons | --from | --to | --limit | --never | --of) ;;
+    --never) _pcml_printed ;;
     *) _pcml_argument ;;
   esac
 }

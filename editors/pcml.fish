@@ -12,6 +12,35 @@ function __pcml_is_bare
     test (count (commandline -opc)) -eq 1
 end
 
+# The script that the line names: the first word behind the command that is neither an option nor its value.
+function __pcml_script
+    set -l before
+    for word in (commandline -op)[3..]
+        if not contains -- "$before" --workers --rows --seasons --journal --need --from --to --only --as --limit --left --never --of; and not string match -q -- '-*' $word
+            echo $word
+            return
+        end
+        set before $word
+    end
+end
+
+# The names of its processes. What is no file, or longer than a script may be, has none.
+function __pcml_processes
+    set -l script (__pcml_script | string replace -r '^~/' "$HOME/")
+    if test -f "$script"; and test -r "$script"; and test (wc -c <$script) -le 65536
+        LC_ALL=C tr -s '\t\r\n' ' ' <"$script" | LC_ALL=C grep -aoE '\bprocess [A-Za-z][A-Za-z0-9_]*' | cut -d' ' -f2
+    end
+end
+
+# Of names with commas between the one at the cursor.
+function __pcml_names
+    set -l named (commandline -ct | string replace -r '^--[a-z]+=' '' | string match -r '^.*,')
+    test -n "$named"; or echo all
+    for name in (__pcml_processes)
+        echo "$named$name"
+    end
+end
+
 complete -c pcml -f
 complete -c pcml -s h -l help -d 'Prints the help'
 complete -c pcml -n __pcml_is_bare -l prove -d 'Proves and builds the program'
@@ -38,7 +67,7 @@ complete -c pcml -n '__pcml_is run' -l seasons -x -d 'How many tables of G rows 
 complete -c pcml -n '__pcml_is run' -l journal -r -F -d 'Writes the lines of the journal to the file TO too'
 complete -c pcml -n '__pcml_is run' -l quiet -d 'Prints no journal'
 complete -c pcml -n '__pcml_is run' -l why -d 'Tells behind the counts of a run why each process stands where it does'
-complete -c pcml -n '__pcml_is run' -l need -x -a 'all' -d 'Processes that have to end'
+complete -c pcml -n '__pcml_is run' -l need -x -a '(__pcml_names)' -d 'Processes that have to end'
 complete -c pcml -n '__pcml_is replay' -l rows -x -a '256 1024' -d 'How many syncs a process may make'
 complete -c pcml -n '__pcml_is replay' -l seasons -x -d 'How many tables of G rows a process a run may take'
 complete -c pcml -n '__pcml_is why' -l rows -x -a '256 1024' -d 'How many syncs a process may make'
@@ -48,17 +77,17 @@ complete -c pcml -n '__pcml_is chart' -l rows -x -a '256 1024' -d 'How many sync
 complete -c pcml -n '__pcml_is chart' -l seasons -x -d 'How many tables of G rows a process a run may take'
 complete -c pcml -n '__pcml_is chart' -l from -x -d 'The first and the last stamp that is drawn'
 complete -c pcml -n '__pcml_is chart' -l to -x -d 'The first and the last stamp that is drawn'
-complete -c pcml -n '__pcml_is chart' -l only -x -a 'all' -d 'Names of processes'
+complete -c pcml -n '__pcml_is chart' -l only -x -a '(__pcml_names)' -d 'Names of processes'
 complete -c pcml -n '__pcml_is chart' -l as -x -a 'mermaid svg' -d 'svg, as it is without the option'
 complete -c pcml -n '__pcml_is next' -l rows -x -a '256 1024' -d 'How many syncs a process may make'
 complete -c pcml -n '__pcml_is outcomes' -l rows -x -a '256 1024' -d 'How many syncs a process may make'
 complete -c pcml -n '__pcml_is outcomes' -l limit -x -d 'How many states are seen'
 complete -c pcml -n '__pcml_is outcomes' -l waiting -d 'Tells only the outcomes in which some process that is told is left waiting'
-complete -c pcml -n '__pcml_is outcomes' -l need -x -a 'all' -d 'Processes that have to end'
-complete -c pcml -n '__pcml_is outcomes' -l left -x -a 'all' -d 'Tells of outcomes nothing but who of these processes'
+complete -c pcml -n '__pcml_is outcomes' -l need -x -a '(__pcml_names)' -d 'Processes that have to end'
+complete -c pcml -n '__pcml_is outcomes' -l left -x -a '(__pcml_names)' -d 'Tells of outcomes nothing but who of these processes'
 complete -c pcml -n '__pcml_is outcomes' -l faults -d 'Tells of outcomes nothing but which process faults'
-complete -c pcml -n '__pcml_is outcomes' -l never -x -d 'Tells of outcomes nothing but whether the process of this name ever prints the value'
-complete -c pcml -n '__pcml_is outcomes' -l only -x -a 'all' -d 'Names of processes'
+complete -c pcml -n '__pcml_is outcomes' -l never -x -a '(__pcml_processes)=' -d 'Tells of outcomes nothing but whether the process of this name ever prints the value'
+complete -c pcml -n '__pcml_is outcomes' -l only -x -a '(__pcml_names)' -d 'Names of processes'
 complete -c pcml -n '__pcml_is outcomes' -l first -d 'Stops at the first outcome that is told'
 complete -c pcml -n '__pcml_is outcomes' -l journal -r -F -d 'Writes the lines of the journal to the file TO too'
 complete -c pcml -n '__pcml_is outcomes' -l of -x -d 'The number of the outcome whose journal is written'
