@@ -7,8 +7,7 @@ use script_writer::write;
 use std::alloc::{AllocError, Global};
 use std::sync::Wait;
 use std::test::Fail;
-use std::thread;
-use std::thread::{Builder, Threads};
+use std::thread::{Builder, Threads, scope, scope_env};
 use thread::End;
 
 /// The bytes of stack that are enough for all that is done with a script, whichever compiler made the program.
@@ -177,7 +176,7 @@ fn deep_scripts_on_little_stack(rt: HostRuntime) -> Result<(), Fail> {
     for (number, shape) in SHAPES.iter().enumerate() {
         let text = text_of(alloc, shape)?;
         for workers in [1, 2] {
-            let told = thread::scope(thread::scope_env(), &rt, |scope| -> Option<Fate> {
+            let told = scope(scope_env(), &rt, |scope| -> Option<Fate> {
                 let started = Builder::new()
                     .stack_size(STACK)
                     .spawn_scoped(scope, || -> Fate {
