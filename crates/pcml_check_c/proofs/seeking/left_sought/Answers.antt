@@ -2,7 +2,7 @@ use Rattle.std.proofs.Common.{ℕ, List, Bool, ap, length, subst, ◌∙◌}
 use Rattle.script.specs.Scripts.{script_of}
 use Rattle.pcml_answers.specs.Needs.{Names}
 use Rattle.pcml_outcomes.specs.Left.{TellsLeft}
-use Rattle.pcml_texts.proofs.Columns.{each-named}
+use Rattle.pcml_answers.proofs.Columns.{each-named}
 use Rattle.pcml_check_c.proofs.seeking.left_sought.Goals as goal
 
 pub left_text-requires-clause-marks : goal.left_text-requires-clause-marks

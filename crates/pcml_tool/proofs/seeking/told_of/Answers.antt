@@ -1,6 +1,6 @@
 use Rattle.std.proofs.Common.{List, Bool, ap, length, ◌∙◌}
 use Rattle.script.specs.Scripts.{script_of}
-use Rattle.pcml_texts.proofs.Columns.{each-named}
+use Rattle.pcml_answers.proofs.Columns.{each-named}
 use Rattle.pcml_tool.proofs.seeking.told_of.Goals as goal
 
 pub left_text-requires-clause-marks : goal.left_text-requires-clause-marks
