@@ -17,6 +17,9 @@ const PRIVATE = 128;
 const ERRORS = 2;
 // What the program tells of a search while it is under way, where its standard error is a terminal.
 const PROGRESS = /^(?:a state takes |[0-9]+ states seen, )/;
+// How far it is stands in one line, which is cleared before it changes.
+const CLEARED = "\r\x1b[K";
+const HOW_FAR = /^[0-9]+ states seen, [0-9]+ open$/;
 
 const encoder = new TextEncoder();
 const decoder = new TextDecoder();
@@ -126,12 +129,22 @@ class System {
 
   // Of the standard error tells how far a search is, line by line, and keeps what is no such line.
   hear(part) {
-    const lines = (this.unended + this.decoder.decode(part, { stream: true })).split("\n");
+    const lines = (this.unended + this.decoder.decode(part, { stream: true })).split("\n").map((line) => this.heard(line));
     this.unended = lines.pop();
     for (const line of lines) {
       if (PROGRESS.test(line)) this.tell_line(line);
       else this.streams[ERRORS].push(encoder.encode(`${line}\n`));
     }
+  }
+
+  // Tells each text of a line that changes, once it is whole, and gives what else stands there.
+  heard(line) {
+    const texts = line.split(CLEARED);
+    for (const text of texts) {
+      if (HOW_FAR.test(text)) this.tell_line(text);
+    }
+    const last = texts.at(-1);
+    return HOW_FAR.test(last) ? "" : last;
   }
 
   // What was told on a stream.
