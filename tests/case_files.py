@@ -123,7 +123,7 @@ class Player:
             is_last = last_line(answer.out).startswith("outcomes ")
             return answer.status == 0 and is_last and listing((answer.out + answer.err).decode()) == listing(body)
         if kind == "runs":
-            is_noted = answer.err == b"" or answer.err.startswith(b"spent: ")
+            is_noted = all(line.startswith(b"spent: ") or b" faulted " in line for line in answer.err.splitlines())
             return is_noted and (answer.status, answer.out) == (0, body.encode())
         if kind == "fails":
             return (answer.status, answer.out, first_line(answer.err)) == (1, b"", body.encode())

@@ -47,7 +47,9 @@ COMMANDS
               for each process and the counts: how many commits there are,
               and behind tail how many of them the workers had not made when
               they were done. Those were added at the end, so that the run is
-              whole; there were none in any run of the tests.
+              whole; there were none in any run of the tests.  Standard error
+              says how many processes are spent, and what went wrong in each
+              that faulted, unless --why tells it.
 
        replay Replays a journal against its script, and prints how each
               process stands, and whether a commit may still come; or the
@@ -189,9 +191,8 @@ OPTIONS
               work and waits for the slowest process, so a few rows are slow
               with many workers, and a large table does not fit the caches.
               Without the option there is one table, in which a process may
-              be spent. Behind a run standard error says how many are.
-              replay, why, chart and stats let a process make K times G
-              syncs.
+              be spent.  replay, why, chart and stats let a process make K
+              times G syncs.
 
        --from S, --to S
               The first and the last stamp that is drawn, from 1; else all
@@ -423,9 +424,8 @@ EXIT STATUS
               left behind, or with --faults one faults, or what is never to
               be printed, with --never, is: all is on standard output.
 
-       70     The script ./pcml of the sources has no program to run and
-              cannot answer without, or a check of an unproved build found
-              something at run time: its message says why.
+       70     The script ./pcml of the sources has no program to run, and
+              cannot build one or answer without: its message says why.
 
 EXAMPLES
        pcml run ping_pong.pcml --workers 2

@@ -16,4 +16,4 @@ pub use crate::check::check_text;
 pub use crate::next::next_journal;
 pub use crate::replay::{Judged, Replayed, judge_journal, replay_laws, replay_text};
 pub use crate::stats::stats_journal;
-pub use crate::why::{why_journal, why_standing};
+pub use crate::why::{faults_standing, why_journal, why_standing};

@@ -1,6 +1,6 @@
 //! What `why` prints.
 
-ghost use Rattle.std.specs.Prelude.{◌≡◌, ◌+◌, ◌≤◌, IfOk, IfErr};
+ghost use Rattle.std.specs.Prelude.{◌≡◌, ◌+◌, ◌≤◌, ℕ, IfOk, IfErr};
 ghost use Rattle.protocol_values.specs.Commits.{most_rows};
 ghost use Rattle.std.specs.List.{AllByRecursion};
 ghost use Rattle.std.specs.String.{string_bytes};
@@ -11,6 +11,7 @@ ghost use Rattle.journal_replay.specs.Replays.{StandsAfter};
 ghost use Rattle.journal_text.specs.Answers.{Explains};
 ghost use Rattle.journal_text.specs.Journals.{HasLine};
 ghost use Rattle.journal_text.specs.Names.{names_of};
+ghost use Rattle.pcml_why.specs.Faults.{TellsFaults};
 ghost use Rattle.pcml_texts.specs.Replay.{IsBroken};
 ghost use Rattle.pcml_texts.specs.Why.{IsWhyOf, TellsReason, TellsWhy};
 
@@ -19,7 +20,7 @@ use crate::replay::Replayed;
 use journal_replay::State;
 use journal_text::JournalFault;
 use pcml_answers::{find_reason, push_reason};
-use pcml_why::why_text;
+use pcml_why::{faults_text, why_text};
 use protocol_values::Commit;
 use script::Script;
 use std::alloc::{AllocError, Global};
@@ -54,6 +55,21 @@ pub fn why_standing(
     ensures { IfOk result (λ told. IsWhyOf (script_of script.now) (trees_in state.now) text.now rows commits.now told.items) }
 {
     let told = why_text(alloc, script, state, commits, text, rows)?;
+    Ok(told.into_bytes())
+}
+
+/// What went wrong in the processes of the script that faulted where these commits lead, which the state tells: a line for
+/// each of them.
+pub fn faults_standing(
+    alloc: Global,
+    script: &Script,
+    commits: &[Commit],
+    state: &State,
+) -> Result<Vec<u8>, AllocError>
+    requires { (rows : ℕ) × StandsAfter (script_of script.now).processes rows commits.now state.now }
+    ensures { IfOk result (λ told. TellsFaults (script_of script.now) state.now commits.now told.items) }
+{
+    let told = faults_text(alloc, script, state, commits)?;
     Ok(told.into_bytes())
 }
 

@@ -49,8 +49,10 @@ const LONG: &str =
     "the journal has more than 16777216 bytes: it was kept whole, and replay, why, chart, next and stats answer fault 23 to it. Fewer --rows or messages make a shorter one.\n";
 
 /// What is told behind a run.
-#[derive(Clone, Copy, Debug)]
+#[derive(Drop)]
 pub(crate) struct BehindRun {
+    /// A line for each process that faulted, with what went wrong.
+    pub(crate) faults: Vec<u8>,
     /// Whether its journal was kept, and is longer than other commands read.
     pub(crate) is_long: bool,
     /// How many processes made as many syncs as they might.
@@ -58,7 +60,8 @@ pub(crate) struct BehindRun {
 }
 
 impl BehindRun {
-    fn tell<E: Write>(self, err: &mut E) {
+    fn tell<E: Write>(&self, err: &mut E) {
+        let _ = err.write_all(&self.faults);
         if self.is_long {
             let _ = write!(err, "{LONG}");
         }
@@ -90,7 +93,7 @@ pub(crate) fn printed_of(alone: bool, journal: Option<Vec<u8>>, text: Vec<u8>) -
 }
 
 /// What is told behind an answer, on the error stream.
-#[derive(Clone, Copy, Debug)]
+#[derive(Drop)]
 pub(crate) enum Advice {
     Nothing,
     Text(&'static str),
@@ -100,7 +103,7 @@ pub(crate) enum Advice {
 
 impl Advice {
     /// Tells it; whether the stream takes it changes nothing.
-    pub(crate) fn tell<E: Write>(self, err: &mut E) {
+    pub(crate) fn tell<E: Write>(&self, err: &mut E) {
         match self {
             Advice::Nothing => {}
             Advice::Text(text) => {

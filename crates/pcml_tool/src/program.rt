@@ -31,7 +31,7 @@ use pcml_answers::named_processes;
 use pcml_files::{MOST_BYTES, Source, emit};
 use pcml_outcomes::outcomes_text;
 use pcml_request::{OutcomesAsked, Request, Running, WordsFault, all_rows, read_words};
-use pcml_texts::why_standing;
+use pcml_texts::{faults_standing, why_standing};
 use script::Script;
 use std::alloc::Global;
 use std::io::Write;
@@ -113,6 +113,23 @@ fn why_asked(
     }
 }
 
+/// What went wrong in the processes that faulted, a line for each: unless `why` tells it.
+fn faults_behind(
+    alloc: Global,
+    script: &Script,
+    ran: &RunText,
+    why: bool,
+) -> Result<Vec<u8>, Fault>
+    requires { (rows : ℕ) × StandsAfter (script_of script.now).processes rows ran.now.commits.items ran.now.state }
+    ensures { IfErr result (λ fault. fault ≡ faults.Memory) }
+{
+    if !why && ran.ends.iter().any(|end| matches!(end, End::Faulted(_))) {
+        Ok(faults_standing(alloc, script, &ran.commits, &ran.state)?)
+    } else {
+        Ok(Vec::new(alloc))
+    }
+}
+
 /// Keeps the lines of a run in a file, where one is named, and gives what is printed. That is the lines alone; or the
 /// lines, unless it is quiet, the rest, and why the processes stand so. There is room for all before the file is written.
 fn keep_run<S: Source>(
@@ -170,6 +187,7 @@ fn answer_run<R: Threads + Wait + Sync, S: Source>(
     let rows = all_rows(asked.rows, asked.seasons);
     let why = why_asked(alloc, &script, &source_text, &ran, rows, asked.why)?;
     let behind = BehindRun {
+        faults: faults_behind(alloc, &script, &ran, asked.why)?,
         is_long: asked.journal.is_some() && ran.lines.len() > MOST_BYTES,
         spent: ran.ends.iter().filter(|end| end.is_spent()).count(),
     };

@@ -8,19 +8,18 @@ use Rattle.configurations.specs.Serving.{nobody_serves}
 use Rattle.protocol_values.specs.declared.Side.{Side}
 use Rattle.protocol_values.specs.declared.Side.TheVariants.{Sends, Receives}
 use Rattle.journal_replay.proofs.Lists.{contains-cases}
-use Rattle.journal_replay.specs.declared.state.State.{State}
 use Rattle.pcml_why_sites.specs.Writing.{same_side}
 use Rattle.pcml_why.specs.Served.{AreAnswers, is_for}
 use Rattle.pcml_why.specs.declared.served.Answer.{Answer}
-use Rattle.pcml_why.specs.Whys.{facts_of, variables_in, variables_of}
+use Rattle.pcml_why.specs.Whys.{variables_at, variables_in}
 
 map-at : {A : Type 0} (f : A → Proc) (xs : List A) (t : ℕ) (d : A) → t < length xs → slice_get (map f xs) t ≡ Some (f (get_or xs t d))
 map-at f xs t d lt =
     slice_get-get_or (map f xs) t (f d) (subst (λ (n : ℕ). t < n) (sym (length-map xs f)) lt) ∙ ap Some (get_or-map f xs t d (f d) lt)
 
 -- the names of its variables
-pub variables-at : {A : Type 0} (f : A → Proc) (xs : List A) (ps : List Proc) (s : State) (t : ℕ) (x : A) → map f xs ≡ ps → t < length xs → x ≡ get_or xs t x → (f x).variables ≡ variables_of (facts_of ps s) t
-variables-at {A = A} f xs ps s t x are lt is =
+pub variables-at : {A : Type 0} (f : A → Proc) (xs : List A) (ps : List Proc) (t : ℕ) (x : A) → map f xs ≡ ps → t < length xs → x ≡ get_or xs t x → (f x).variables ≡ variables_at ps t
+variables-at {A = A} f xs ps t x are lt is =
     ap (λ (y : A). (f y).variables) is ∙ ap variables_in (sym (map-at f xs t x lt)) ∙ ap (λ (qs : List Proc). variables_in (slice_get qs t)) are
 
 pub no-name : (names : List (List ℕ)) (v : ℕ) → None ≡ slice_get names v → [] ≡ get_or names v []

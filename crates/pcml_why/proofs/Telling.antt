@@ -2,20 +2,20 @@
 use Rattle.std.proofs.Common.{◌≡◌, Bool, ℕ, ◌+◌, List, ◌++◌, refl, add-one, ◌∙◌, ap, append_assoc, ◌<◌, length, get_or, Option, Some, slice_get, take}
 use Rattle.std.proofs.lemmas.Option.{slice_get-get_or}
 use Rattle.journal_text.specs.Names.{Naming}
-use Rattle.pcml_why.specs.Whys.{Facts, site_text, sites_below}
+use Rattle.pcml_why.specs.Whys.{texts_of}
 use Rattle.protocol_values.specs.declared.Atom.{Atom}
 use Rattle.pcml_why.specs.Variables.{some_set, variable_text, variables_below}
 use Rattle.pcml_why_sites.specs.declared.site.Site.{Site}
 
-below-one : (names : Naming) (facts : Facts) (rows : ℕ) (sites : List Site) (n : ℕ) (s : Site) → slice_get sites n ≡ Some s → sites_below names facts rows sites n ++ site_text names facts rows sites n s ≡ sites_below names facts rows sites (n + 1)
-below-one names facts rows sites n s is = rw add-one (rw is refl)
+below-one : (text : ℕ → Site → List ℕ) (sites : List Site) (n : ℕ) (s : Site) → slice_get sites n ≡ Some s → texts_of text sites n ++ text n s ≡ texts_of text sites (n + 1)
+below-one text sites n s is = rw add-one (rw is refl)
 
 -- one more process
-pub sites_below-more : (names : Naming) (facts : Facts) (rows : ℕ) (sites : List Site) (n : ℕ) (d : Site) (before text more : List ℕ) → n < length sites → text ≡ before ++ sites_below names facts rows sites n → more ≡ text ++ site_text names facts rows sites n (get_or sites n d) → more ≡ before ++ sites_below names facts rows sites (n + 1)
-sites_below-more names facts rows sites n d before text more within is grown =
+pub texts_of-more : (one : ℕ → Site → List ℕ) (sites : List Site) (n : ℕ) (d : Site) (before text more : List ℕ) → n < length sites → text ≡ before ++ texts_of one sites n → more ≡ text ++ one n (get_or sites n d) → more ≡ before ++ texts_of one sites (n + 1)
+texts_of-more one sites n d before text more within is grown =
     let s = get_or sites n d in
-    grown ∙ ap (λ (l : List ℕ). l ++ site_text names facts rows sites n s) is ∙ append_assoc before (sites_below names facts rows sites n) (site_text names facts rows sites n s)
-    ∙ ap (λ (l : List ℕ). before ++ l) (below-one names facts rows sites n s (slice_get-get_or sites n d within))
+    grown ∙ ap (λ (l : List ℕ). l ++ one n s) is ∙ append_assoc before (texts_of one sites n) (one n s)
+    ∙ ap (λ (l : List ℕ). before ++ l) (below-one one sites n s (slice_get-get_or sites n d within))
 
 -- one more variable
 variable-one : (names : Naming) (variables : List (List ℕ)) (store : List (Option Atom)) (v : ℕ) (x : Option Atom) → slice_get store v ≡ Some x →

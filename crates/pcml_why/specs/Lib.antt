@@ -1,3 +1,4 @@
 pub mod Served
 pub mod Variables
 pub mod Whys
+pub mod Faults

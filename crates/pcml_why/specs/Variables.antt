@@ -69,7 +69,7 @@ unfoldable pub above_words : List ℕ
 above_words = codes " is above 4294967295"
 
 unfoldable pub nacks_words : List ℕ
-nacks_words = codes "it is the 65th nack"
+nacks_words = codes "a process has 64 nacks"
 
 abbrev pub trouble_text : Naming → List (List ℕ) → Trouble → List ℕ
 trouble_text names variables (Unset v) = get_or variables v [] ++ codes " is not set"

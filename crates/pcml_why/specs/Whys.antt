@@ -46,8 +46,8 @@ variables_in None = []
 variables_in (Some p) = p.variables
 
 -- the names of the variables of a process
-abbrev pub variables_of : Facts → ℕ → List (List ℕ)
-variables_of facts t = variables_in (slice_get facts.processes t)
+abbrev pub variables_at : List Proc → ℕ → List (List ℕ)
+variables_at ps t = variables_in (slice_get ps t)
 
 -- THE TEXT OF AN OFFER
 
@@ -158,19 +158,22 @@ process_text names variables facts rows sites t s =
     names.thread t ++ stand_text names variables rows s.line s.end s.stand ++ known_at names variables s ++ offers_text names facts sites t s
 
 abbrev pub site_text : Naming → Facts → ℕ → List Site → ℕ → Site → List ℕ
-site_text names facts rows sites t s = process_text names (variables_of facts t) facts rows sites t s
+site_text names facts rows sites t s = process_text names (variables_at facts.processes t) facts rows sites t s
 
-abbrev pub text_at : Naming → Facts → ℕ → List Site → ℕ → Option Site → List ℕ
-text_at names facts rows sites t None = []
-text_at names facts rows sites t (Some s) = site_text names facts rows sites t s
+abbrev pub text_if : (Site → List ℕ) → Option Site → List ℕ
+text_if text None = []
+text_if text (Some s) = text s
 
--- the first so many processes
-abbrev pub sites_below : Naming → Facts → ℕ → List Site → ℕ → List ℕ
-sites_below names facts rows sites zero = []
-sites_below names facts rows sites (suc t) = sites_below names facts rows sites t ++ text_at names facts rows sites t (slice_get sites t)
+-- the texts of the first so many processes
+abbrev pub texts_of : (ℕ → Site → List ℕ) → List Site → ℕ → List ℕ
+texts_of text sites zero = []
+texts_of text sites (suc t) = texts_of text sites t ++ text_if (text t) (slice_get sites t)
+
+abbrev pub all_texts : (ℕ → Site → List ℕ) → List Site → List ℕ
+all_texts text sites = texts_of text sites (length sites)
 
 abbrev pub why_text : Naming → Facts → ℕ → List Site → List ℕ
-why_text names facts rows sites = sites_below names facts rows sites (length sites)
+why_text names facts rows sites = all_texts (site_text names facts rows sites) sites
 
 -- THE LAST LINES
 

@@ -5,8 +5,10 @@
 //! What is told is a function of how the processes stand and of the script's text (`specs/Whys.antt`).
 #![tactic(auto)]
 
+mod faults;
 mod served;
 mod text;
 mod variables;
 
+pub use crate::faults::faults_text;
 pub use crate::text::why_text;

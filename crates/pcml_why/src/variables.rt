@@ -89,7 +89,7 @@ fn above_words() -> &'static str
 fn nacks_words() -> &'static str
     ensures { result.now ≡ nacks_words }
 {
-    "it is the 65th nack"
+    "a process has 64 nacks"
 }
 
 impl Namer<'_> {

@@ -62,7 +62,7 @@ pub(crate) fn limit_words<'a>(alloc: Global, site: &Site<'a>) -> Result<&'static
     } else if site.is_before(Symbol::Process) {
         "a script has at most 64 processes"
     } else if site.is_before(Symbol::Comma) {
-        "at most 3 stand in a list"
+        "a message has at most 3 atoms"
     } else {
         DEPTH
     })

@@ -13,6 +13,13 @@ pub(crate) fn last_line(text: &[u8]) -> &str {
     }
 }
 
+/// Whether each line is one that a run tells on the error stream.
+fn are_notes(err: &[u8]) -> bool {
+    let text = str::from_utf8(err).unwrap_or("?");
+    text.lines()
+        .all(|line| line.starts_with("spent: ") || line.contains(" faulted "))
+}
+
 /// The first line of a text, with its end.
 fn first_line(text: &[u8]) -> &[u8] {
     match text.iter().position(|byte| *byte == b'\n') {
@@ -33,7 +40,7 @@ pub(crate) struct Outcome {
 #[derive(Clone, Copy)]
 pub(crate) enum Wanted {
     Prints,
-    /// The same of a run: how many processes are spent may be told on the error stream.
+    /// The same of a run: on the error stream may stand who faulted, and how many are spent.
     Runs,
     /// On the error stream begins what is told with this line.
     Fails,
@@ -119,7 +126,7 @@ impl Outcome {
             Wanted::Runs => {
                 return self.status == 0
                     && self.out.as_slice() == text.as_bytes()
-                    && (self.err.is_empty() || self.err.starts_with(b"spent: "));
+                    && are_notes(self.err.as_slice());
             }
             Wanted::Unlawful => (1, text, ""),
             Wanted::Lacks => (3, text, ""),
