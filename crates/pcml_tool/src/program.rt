@@ -114,12 +114,7 @@ fn why_asked(
 }
 
 /// What went wrong in the processes that faulted, a line for each: unless `why` tells it.
-fn faults_behind(
-    alloc: Global,
-    script: &Script,
-    ran: &RunText,
-    why: bool,
-) -> Result<Vec<u8>, Fault>
+fn faults_behind(alloc: Global, script: &Script, ran: &RunText, why: bool) -> Result<Vec<u8>, Fault>
     requires { (rows : ℕ) × StandsAfter (script_of script.now).processes rows ran.now.commits.items ran.now.state }
     ensures { IfErr result (λ fault. fault ≡ faults.Memory) }
 {

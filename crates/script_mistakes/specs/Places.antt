@@ -29,7 +29,11 @@ from_line bytes at = drop (at - (column_at bytes at - 1)) bytes
 abbrev pub blank : ℕ → ℕ
 blank b = if b == 9 then 9 else 32
 
+-- how a byte of a line is shown: one that is no text would steer a terminal
+abbrev pub shown : ℕ → ℕ
+shown b = if b == 9 then 9 else if b == 13 then 32 else if nat_lt b 32 || (b == 127) then 63 else b
+
 -- the line in which the byte stands that is behind so many, and below it a mark under that byte
 abbrev pub excerpt_text : List ℕ → ℕ → List ℕ
 excerpt_text bytes at =
-    before_first (λ b. b == 10) (from_line bytes at) ++ 10 ∷ (map blank (take (column_at bytes at - 1) (from_line bytes at)) ++ codes "^\n")
+    map shown (before_first (λ b. b == 10) (from_line bytes at)) ++ 10 ∷ (map blank (take (column_at bytes at - 1) (from_line bytes at)) ++ codes "^\n")

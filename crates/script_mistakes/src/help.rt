@@ -62,6 +62,8 @@ fn bad_words(byte: u8) -> &'static str {
         b'"' | b'\'' => "there are no texts: a message has numbers, channels and nacks",
         b'0'..=b'9' => "a number has no `0` in front, no letter behind, and is at most 4294967295",
         b'_' => "a name begins with a letter",
+        0..=31 | 127 => "this byte is no text, and is shown as `?`",
+        128..=255 => "a name has ASCII letters, digits and `_`",
         _ => "no word and no mark of the language begins so",
     }
 }

@@ -3,7 +3,7 @@
 ghost use Rattle.std.specs.Prelude.{◌≡◌, ◌++◌, ◌==◌, ◌<◌, ◌≤◌, ◌^◌, OnOk, drop, length, map, take};
 ghost use Rattle.std.specs.List.{before_first, position_or_len};
 ghost use Rattle.script_token.specs.Lexemes.{token_starts};
-ghost use Rattle.script_mistakes.specs.Places.{blank, column_at, excerpt_text, next_column, place_left};
+ghost use Rattle.script_mistakes.specs.Places.{blank, column_at, excerpt_text, next_column, place_left, shown};
 
 use std::alloc::AllocError;
 
@@ -93,13 +93,37 @@ fn push_blanks(out: &mut Vec<u8>, bytes: &[u8]) -> Result<(), AllocError>
     Ok(())
 }
 
+/// How a byte of a line is shown: one that is no text would steer a terminal.
+fn shown(byte: u8) -> u8
+    ensures { result ≡ shown byte }
+{
+    if byte == b'\t' {
+        b'\t'
+    } else if byte == b'\r' {
+        b' '
+    } else if byte < 32 || byte == 127 {
+        b'?'
+    } else {
+        byte
+    }
+}
+
+fn push_shown(out: &mut Vec<u8>, bytes: &[u8]) -> Result<(), AllocError>
+    ensures { OnOk result (out.new.items ≡ out.old.items ++ map shown bytes.now) }
+{
+    for byte in bytes {
+        out.push(shown(*byte))?;
+    }
+    Ok(())
+}
+
 /// Appends the line in which the byte stands that is behind so many, and below it a mark under that byte.
 pub(crate) fn push_excerpt(out: &mut Vec<u8>, bytes: &[u8], at: usize) -> Result<(), AllocError>
     ensures { OnOk result (out.new.items ≡ out.old.items ++ excerpt_text bytes.now at) }
 {
     let before = column_at(bytes, at) - 1;
     let line = last_bytes(bytes, at.saturating_sub(before));
-    out.extend_from_slice(first_line(line))?;
+    push_shown(out, first_line(line))?;
     out.push(b'\n')?;
     push_blanks(out, first_bytes(line, before))?;
     out.extend_from_slice(b"^\n")

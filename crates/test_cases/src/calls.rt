@@ -16,8 +16,7 @@ pub(crate) fn last_line(text: &[u8]) -> &str {
 /// Whether each line is one that a run tells on the error stream.
 fn are_notes(err: &[u8]) -> bool {
     let text = str::from_utf8(err).unwrap_or("?");
-    text.lines()
-        .all(|line| line.starts_with("spent: ") || line.contains(" faulted "))
+    text.lines().all(|line| line.starts_with("spent: ") || line.contains(" faulted "))
 }
 
 /// The first line of a text, with its end.
