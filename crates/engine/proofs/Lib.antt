@@ -1,0 +1,12 @@
+mod Multiples
+mod Trying
+mod Lists
+mod Results
+mod Kept
+mod Promises
+mod Listing
+mod Lining
+mod Tabling
+mod Opening
+mod Sounding
+mod Writing

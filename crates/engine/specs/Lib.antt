@@ -1,0 +1,7 @@
+pub mod Orders
+pub mod Offers
+pub mod States
+pub mod Calls
+pub mod Places
+pub mod Lines
+pub mod Tables
