@@ -1,2 +1,3 @@
 pub mod Lines
 pub mod States
+pub mod Buffers

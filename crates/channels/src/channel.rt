@@ -94,6 +94,17 @@ impl Channel {
         }
     }
 
+    /// Whether somebody of another ticket stands on a side.
+    #[inline]
+    pub fn has_other(&self, side: Side, ticket: u64) -> bool
+        ensures { result ≡ has_other ticket (line side self.now) }
+    {
+        match side {
+            Side::Send => self.sends.has_other(ticket),
+            Side::Receive => self.receives.has_other(ticket),
+        }
+    }
+
     /// Closes the channel. Those who stand in its lines stay until they are taken out.
     pub fn close(&mut self)
         ensures promise { Promise self.new }

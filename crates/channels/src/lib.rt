@@ -3,10 +3,16 @@
 //! It is plain data. Whoever could meet is never left standing.
 #![tactic(auto)]
 
+mod buffered;
 mod channel;
+mod held;
 mod line;
+mod pulls;
 mod waiting;
 
+pub use crate::buffered::{Buffered, HoldFault, TakeFault};
 pub use crate::channel::Channel;
+pub use crate::held::Held;
 pub use crate::line::Line;
+pub use crate::pulls::{Pull, Pulls};
 pub use crate::waiting::{Side, StandFault, Waiting, Who};

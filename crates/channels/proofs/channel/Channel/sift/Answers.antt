@@ -1,4 +1,3 @@
-use Rattle.channels.specs.States.{Promise, State}
 use Rattle.channels.proofs.Members.{in-sifted}
 use Rattle.channels.proofs.Standing.{promise-fewer}
 use Rattle.channels.proofs.channel.Channel.sift.Goals as goal
