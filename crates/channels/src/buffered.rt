@@ -74,6 +74,7 @@ impl Buffered {
     pub fn oldest(&mut self, side: Side) -> Option<Waiting>
         ensures promise { Promises self.new }
         ensures oldest { line side self.old.lines ≡ option_to_list result ++ line side self.new.lines }
+        ensures none { IfNone result (line side self.old.lines ≡ []) }
         ensures rest { self.new ≡ record self.old { lines = with_line side self.old.lines (line side self.new.lines) } }
     {
         self.lines.oldest(side)
