@@ -1,0 +1,6 @@
+//! The engine as plain Rust, and what it is tried by.
+
+pub mod engine;
+pub mod memory;
+pub mod model;
+pub mod numbers;
