@@ -1,6 +1,6 @@
 /*
- * What the program takes from C, for a browser: memory, the last error, threads (there are none), and products of
- * 128 bits, which the compiler calls by name. Files, streams and words are functions of the page (parts/program.js).
+ * What the program takes from C, for a browser: memory, the last error, its text, threads (there are none), and products
+ * of 128 bits, which the compiler calls by name. Files, streams and words are functions of the page (parts/program.js).
  */
 
 typedef unsigned long size;
@@ -109,6 +109,28 @@ void rattle_dealloc(void *at) { free(at); }
 static int last_error;
 void rattle_set_errno(int error) { last_error = error; }
 int rattle_errno(void) { return last_error; }
+
+/* What a system says of the errors that the page's files come to (parts/program.js). */
+static const char *text_of(int error) {
+  switch (error) {
+    case 2: return "No such file or directory";
+    case 9: return "Bad file descriptor";
+    case 11: return "Resource temporarily unavailable";
+    case 17: return "File exists";
+    default: return "Unknown error";
+  }
+}
+
+int __xpg_strerror_r(int error, char *to, size room) {
+  const char *text = text_of(error);
+  size at = 0;
+  while (text[at] && at + 1 < room) {
+    to[at] = text[at];
+    at++;
+  }
+  if (room) to[at] = 0;
+  return 0;
+}
 
 /* No thread can be started, so the program tells so where more than one worker is asked for. */
 int pthread_create(size *thread, const void *how, void *(*begin)(void *), void *with) { return AGAIN; }
